@@ -1,0 +1,4 @@
+pub mod Lent
+pub mod Short
+pub mod Inst
+pub mod Walk

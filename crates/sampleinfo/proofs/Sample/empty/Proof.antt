@@ -1,0 +1,12 @@
+use borrow.Author.Needs.{needs}
+use Rattle.sampleinfo.proofs.Sample.empty.Statement.{statement}
+use Rattle.sampleinfo.proofs.Sample.empty.Tie as tie
+
+zero-requires : tie.Need-zero-requires
+zero-requires c κs = search needs
+
+returns : tie.Need-returns
+returns c = cc
+
+pub empty-spec : {M : Type 1} → statement M
+empty-spec = tie.close (tie.spec zero-requires returns)

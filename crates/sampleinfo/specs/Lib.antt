@@ -1,0 +1,7 @@
+pub mod States
+pub mod StateLaws
+pub mod Counts
+pub mod Lifecycle
+pub mod LifecycleLaws
+pub mod Samples
+pub mod SampleLaws
