@@ -12,6 +12,7 @@ crates/CRATE/lent.txt says what is lent, one line each; `#` begins a comment:
                             a theorem about code of F's shape, a Proof.antt that uses it
   plain F ..                derive F though its signature is plain (found by itself where F calls a lent function)
   skip F ..                 leave F alone
+  only R ..                 of the records of the crates that CRATE uses, only these are lent here (default: all of them)
 Functions whose signature has a reference to a record are lent. Records and lent functions of the crates that CRATE uses come from their
 lent.txt. FN: only these (default: all). Options: --list (say what would be done), --keep DIR (leave the twins there), --force
 (write a starting Proof.antt.new even where there is a Proof.antt)."""
@@ -70,7 +71,7 @@ class Crate:
                 if f.endswith(".rt"): c.files[os.path.relpath(os.path.join(d, f), src)] = read(os.path.join(d, f))
         c.fns, c.types = [], {}
         for f, s in c.files.items(): c.scan(f, s)
-        c.records, c.cores, c.said = {}, {}, {"walked": [], "plain": [], "skip": []}
+        c.records, c.cores, c.only, c.said = {}, {}, [], {"walked": [], "plain": [], "skip": []}
         p = os.path.join(c.dir, "lent.txt")
         c.has = os.path.exists(p)
         if c.has:
@@ -81,8 +82,9 @@ class Crate:
                 if w[0] == "record" and len(w) in (3, 4) and (len(w) == 3 or w[3].isdigit()): c.records[w[1]] = (w[2], int(w[3]) if len(w) == 4 else None)
                 elif w[0] == "core" and re.match(r"core\s+[\w:]+\s*=", l):
                     k, b = l[4:].split("=", 1); c.cores[k.strip()] = b.strip()
+                elif w[0] == "only": c.only += w[1:]
                 elif w[0] in c.said: c.said[w[0]] += w[1:]
-                else: die(f"crates/{name}/lent.txt:{n}: not understood: {l}\n  known: record R MODULE [BYTES] | core F = BODY | walked F .. | plain F .. | skip F ..")
+                else: die(f"crates/{name}/lent.txt:{n}: not understood: {l}\n  known: record R MODULE [BYTES] | core F = BODY | walked F .. | plain F .. | skip F .. | only R ..")
             known = {f.name for f in c.fns}
             for k in list(c.cores) + sum(c.said.values(), []):
                 if k not in known: die(f"crates/{name}/lent.txt: there is no function {k} in crates/{name}/src")
@@ -145,6 +147,7 @@ class World:
         if not w.me.has and not any(c.has for c in w.crates.values()): die(f"no crates/{name}/lent.txt: write one with a line `record R MODULE` for each struct that is lent")
         w.records = []                                         # (crate, record, module, bytes)
         for c in w.crates.values():
+            if w.me.only and c is not w.me: c.records = {r: x for r, x in c.records.items() if r in w.me.only}
             for r, (m, b) in c.records.items(): w.records.append(dict(crate=c, name=r, module=m, bytes=b))
         w.rec = r"(?:" + "|".join(sorted({r["name"] for r in w.records}, key=len, reverse=True)) + r")\b"
         for c in w.crates.values():
@@ -246,6 +249,10 @@ class World:
                     cuts.append((a, b, "{ ⌜ 0 < 1 ⌝ }" if kind == "requires" else "{ λ _. ⌜ 0 < 1 ⌝ }"))
                 if f not in keep and not f.const:
                     b = w.stub(f); cuts.append((f.body[0], f.body[1], "{ " + b + " }" if b else "{ }"))
+            for f in c.fns if c is not w.me else []:      # of a crate that is used, only what is called from here
+                if f.file != file or f.const or any(w.me.calls(g.text, f) or (f.self_ty and re.search(rf"\.{f.name}\s*\(", g.text)) for g in w.me.fns): continue
+                a = m.rfind("\n", 0, f.sig[0]) + 1; e = f.body[1]
+                cuts = [k for k in cuts if not (a <= k[0] < e)] + [(a, e, "")]
             for r in c.records:
                 for x in re.finditer(rf"(?:#\[[^\]]*\]\s*)*(?:pub(?:\([^)]*\))?\s+)?struct\s+{r}\s*\{{|\bimpl\s+{r}\s*\{{", m):
                     e = close(m, x.end() - 1); cuts = [k for k in cuts if not (x.start() <= k[0] < e)] + [(x.start(), e, "")]

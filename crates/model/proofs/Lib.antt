@@ -1,0 +1,11 @@
+pub mod Laws
+pub mod Held
+pub mod Refusals
+pub mod Counting
+pub mod Slots
+pub mod Names
+pub mod Keys
+pub mod Adds
+pub mod Choices
+pub mod Lists
+pub mod Demand3

@@ -1,0 +1,11 @@
+pub mod clear
+pub mod fill
+pub mod free
+pub mod gather
+pub mod get
+pub mod mark
+pub mod peek
+pub mod put
+pub mod store
+pub mod swap
+pub mod touch

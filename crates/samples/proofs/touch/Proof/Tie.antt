@@ -1,0 +1,98 @@
+-- Machine-made by `python3 lent.py samples touch`: do not edit; make it again when the source changes.
+use Rattle.samples.proofs.Lent.clear.Reads
+use Rattle.samples.proofs.Lent.mark.Reads as Reads'
+use Rattle.samples.proofs.Lent.touch.Kinds
+use Rattle.samples.proofs.Lent.touch.Reads as Reads''
+use Rattle.samples.proofs.clear.Met
+use Rattle.samples.proofs.clear.Symbol
+use Rattle.samples.proofs.mark.Met as Met'
+use Rattle.samples.proofs.mark.Symbol as Symbol'
+use Rattle.samples.proofs.touch.Code
+use Rattle.samples.proofs.touch.Key
+use Rattle.samples.proofs.touch.Proof.Lts
+use Rattle.samples.proofs.touch.Statement
+use borrow.Fn.Run
+use borrow.Fn.Written
+use contract.Running
+
+abbrev claims : Lts.Claims
+claims = (Reads.Asked, Reads.Learnt, Reads'.Asked, Reads'.Learnt)
+
+abbrev pub Start : Type 0
+Start = Lts.Start claims Reads''.Pre Reads''.Post
+
+abbrev pub Then1 : Type 0
+Then1 = Lts.Then1 claims Reads''.Pre Reads''.Post
+
+abbrev pub Then2 : Type 0
+Then2 = Lts.Then2 claims Reads''.Pre Reads''.Post
+
+abbrev pub After-clear-arg : Type 0
+After-clear-arg = Lts.After-clear-arg claims Reads''.Pre Reads''.Post
+
+abbrev pub After-clear : Type 0
+After-clear = Lts.After-clear claims Reads''.Pre Reads''.Post
+
+abbrev pub After-t : Type 0
+After-t = Lts.After-t claims Reads''.Pre Reads''.Post
+
+abbrev pub Else2 : Type 0
+Else2 = Lts.Else2 claims Reads''.Pre Reads''.Post
+
+abbrev pub After-mark-arg : Type 0
+After-mark-arg = Lts.After-mark-arg claims Reads''.Pre Reads''.Post
+
+abbrev pub After-mark : Type 0
+After-mark = Lts.After-mark claims Reads''.Pre Reads''.Post
+
+abbrev pub After-t2 : Type 0
+After-t2 = Lts.After-t2 claims Reads''.Pre Reads''.Post
+
+abbrev pub Else1 : Type 0
+Else1 = Lts.Else1 claims Reads''.Pre Reads''.Post
+
+abbrev pub Need-clear-requires : Type 0
+Need-clear-requires = Lts.Need-clear-requires claims Reads''.Pre Reads''.Post
+
+abbrev pub Need-mark-requires : Type 0
+Need-mark-requires = Lts.Need-mark-requires claims Reads''.Pre Reads''.Post
+
+abbrev pub Need-same-length : Type 0
+Need-same-length = Lts.Need-same-length claims Reads''.Pre Reads''.Post
+
+abbrev pub Need-returns : Type 0
+Need-returns = Lts.Need-returns claims Reads''.Pre Reads''.Post
+
+abbrev pub Need-same-length-2 : Type 0
+Need-same-length-2 = Lts.Need-same-length-2 claims Reads''.Pre Reads''.Post
+
+abbrev pub Need-returns-2 : Type 0
+Need-returns-2 = Lts.Need-returns-2 claims Reads''.Pre Reads''.Post
+
+abbrev pub Need-returns-3 : Type 0
+Need-returns-3 = Lts.Need-returns-3 claims Reads''.Pre Reads''.Post
+
+module _ {M : Type 1} where
+  pub spec : (answer : Need-clear-requires) → (answer : Need-mark-requires) → (answer : Need-same-length) → (answer : Need-returns) → (answer : Need-same-length-2) → (answer :
+      Need-returns-2) → (answer : Need-returns-3) → Lts.Closed claims Reads''.Pre Reads''.Post M
+  spec = λ answer answer' answer'' answer'3 answer'4 answer'5 answer'6. Lts.spec claims Reads''.Pre Reads''.Post answer answer' answer'' answer'3 answer'4 answer'5 answer'6
+
+  pub close : Lts.Closed claims Reads''.Pre Reads''.Post M → Statement.statement M
+  unfolding Code.routine Running.tablesOf
+  close = λ closed 𝓤 H 𝓜 𝓖 𝓡. Written.close 1 Kinds.ps Kinds.r Reads''.Ghost Reads''.requires Reads''.ensures Reads''.pre-read Reads''.Pinned Reads''.Owned Reads''.post-read record {
+    M = M;
+    𝓤 = 𝓤;
+    H = H;
+    𝓜 = 𝓜;
+    𝓖 = 𝓖;
+    𝓡 = 𝓡;
+  } Code.env Key.name Code.function (Code.unfolded 𝓤 H 𝓜 𝓡) (λ κs a g. tt) (λ κs. Reads''.owns κs record { M = M; 𝓤 = 𝓤; H = H; 𝓜 = 𝓜; 𝓖 = 𝓖; 𝓡 = 𝓡 })
+      (Reads''.passes record { M = M; 𝓤 = 𝓤; H = H; 𝓜 = 𝓜; 𝓖 = 𝓖; 𝓡 = 𝓡 }) λ g. closed 𝓤 H (𝓖 .A) (Running.givenOf 𝓤 H 𝓜 𝓖) (Run.Over 𝓤 H 𝓜 𝓖 𝓡 Code.env) (Reads.known record {
+        M = M;
+        𝓤 = 𝓤;
+        H = H;
+        𝓜 = 𝓜;
+        𝓖 = 𝓖;
+        𝓡 = 𝓡;
+      } Code.env Symbol.name Symbol.routine Code.calls-samples·clear (Met.met 𝓤 H 𝓜 𝓖 𝓡)) (Reads'.known record { M = M; 𝓤 = 𝓤; H = H; 𝓜 = 𝓜; 𝓖 = 𝓖; 𝓡 = 𝓡 }
+      Code.env Symbol'.name Symbol'.routine Code.calls-samples·mark (Met'.met 𝓤 H 𝓜 𝓖 𝓡))

@@ -1,0 +1,4 @@
+pub mod Text
+pub mod IntLaws
+pub mod NumberLaws
+pub mod PutLaws
