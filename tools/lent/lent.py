@@ -216,7 +216,10 @@ class World:
         if not m: return None
         o = w.crates.get(m.group(1), c); n = m.group(2)
         if n in o.records: return next(f'[0; {r["n"]}]' for r in w.records if r["crate"] is o and r["name"] == n)
-        if n not in o.types: return None
+        if n not in o.types:                                  # brought in by a `use` line
+            u = next((x.group(1) for f in o.files.values() for x in re.finditer(rf"^use (\w+)::(?:\w+::)*{n};", f, re.M)), None)
+            if u not in w.crates or n not in w.crates[u].types: return None
+            t, o = f"{u}::{n}", w.crates[u]
         kind, body = o.types[n]
         if kind == "struct":
             vs = [(k, w.value(o, y, depth + 1)) for k, y in body]
@@ -240,17 +243,19 @@ class World:
     def twin(w, c, keep):
         """the files of crate c in the twin, with the bodies of the functions of `keep` alone"""
         out = {}
+        # of a crate that is used, only what the kept bodies call
+        unused = [] if c is w.me else [f for f in c.fns if not f.const and not any(w.me.calls(g.text, f) or (f.self_ty and re.search(rf"\.{f.name}\s*\(", g.text)) for g in keep)]
         for file, s in c.files.items():
             m = mask(s); cuts = []
             for f in c.fns:
-                if f.file != file: continue
+                if f.file != file or f in unused: continue
                 for kind, a, b in f.clauses:
                     if kind == "ghost": die(f"{c.name}::{f.name} has a ghost clause: not handled")
                     cuts.append((a, b, "{ ⌜ 0 < 1 ⌝ }" if kind == "requires" else "{ λ _. ⌜ 0 < 1 ⌝ }"))
                 if f not in keep and not f.const:
                     b = w.stub(f); cuts.append((f.body[0], f.body[1], "{ " + b + " }" if b else "{ }"))
-            for f in c.fns if c is not w.me else []:      # of a crate that is used, only what is called from here
-                if f.file != file or f.const or any(w.me.calls(g.text, f) or (f.self_ty and re.search(rf"\.{f.name}\s*\(", g.text)) for g in w.me.fns): continue
+            for f in unused:
+                if f.file != file: continue
                 a = m.rfind("\n", 0, f.sig[0]) + 1; e = f.body[1]
                 cuts = [k for k in cuts if not (a <= k[0] < e)] + [(a, e, "")]
             for r in c.records:

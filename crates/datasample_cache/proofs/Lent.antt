@@ -1,0 +1,2 @@
+pub mod add
+pub mod set_up

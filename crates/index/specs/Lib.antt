@@ -1,0 +1,5 @@
+pub mod Words
+pub mod WordLaws
+pub mod Memory
+pub mod MemoryLaws
+pub mod Keeping

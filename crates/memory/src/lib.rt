@@ -1,0 +1,1 @@
+// No code: what lies in memory for a cache of the model.

@@ -1,0 +1,4 @@
+pub mod Plan
+pub mod WindowLaws
+pub mod PlaceLaws
+pub mod KeyedLaws
