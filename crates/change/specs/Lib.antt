@@ -1,2 +1,3 @@
 pub mod Change
 pub mod ChangeLaws
+pub mod Keeping

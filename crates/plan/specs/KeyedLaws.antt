@@ -51,12 +51,12 @@ place-name n (i ∷ is) d e = go (eqb (i .name) n) refl (place-name n is d e)
     go true q h = eqb-true (i .name) n q
     go false q h = h
 
-any-default : (is : List Inst) (i : ℕ) (d e : Inst) → i < length is → getD is i d ≡ getD is i e
+pub any-default : (is : List Inst) (i : ℕ) (d e : Inst) → i < length is → getD is i d ≡ getD is i e
 any-default [] i d e h = absurd (not-suc-le-zero h)
 any-default (x ∷ is) zero d e h = refl
 any-default (x ∷ is) (suc i) d e h = any-default is i d e (le-of-suc-le-suc h)
 
-fresh-cells : (k : Option ℕ) → cellsFor k ≡ replicate (depthOf k) 256
+pub fresh-cells : (k : Option ℕ) → cellsFor k ≡ replicate (depthOf k) 256
 fresh-cells none = refl
 fresh-cells (some d) = refl
 

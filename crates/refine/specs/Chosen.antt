@@ -13,11 +13,8 @@ use Rattle.readcondition.specs.Masks.{chosenBy}
 use Rattle.readcondition.specs.declared.ReadCondition.{ReadCondition}
 use Rattle.model.specs.Pairs.{Hit}
 use Rattle.model.specs.Views.{viewOf}
-use Rattle.store.specs.Store.{Inst, Store, placeOf, instAt}
-
--- the instance of a slot's sample
-abbrev pub ownerAt : Store → ℕ → Inst
-ownerAt s k = instAt s (getD (s .owners) k 0)
+use Rattle.store.specs.Store.{Inst, Store, placeOf}
+use Rattle.refine.specs.Lists.{ownerAt}
 
 -- "A sample is chosen if all three of its states are in the masks"
 abbrev pub chosenWith : ReadCondition → Inst → Sample → Bool

@@ -20,3 +20,6 @@ pub mod Lists
 pub mod Fold
 pub mod Viewed
 pub mod Chosen
+pub mod Choosing
+pub mod Infos
+pub mod OneContent

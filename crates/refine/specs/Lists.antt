@@ -1,15 +1,18 @@
 -- What reading and taking a list of pairs does to the store and to the table, slot by slot.
-use mathlib.Core.Bool.{Bool, true, false, cond}
+use mathlib.Core.Bool.{Bool, true, false, _&&_, cond}
 use mathlib.Core.List.{List, [], _∷_, map}
 use mathlib.Core.Option.{Option, some, none}
 use Prim.Native.Nat.{ℕ, zero, suc, max}
 use lib.ListN.{length, getD, set}
-use lib.Dec.{eqb}
-use Rattle.sampleinfo.specs.Counts.{accessedAt}
-use Rattle.sampleinfo.specs.Samples.{emptySample, markedRead, totalOf}
+use lib.Dec.{eqb, ltb}
+use Rattle.sampleinfo.specs.Counts.{total, accessedAt}
+use Rattle.sampleinfo.specs.Lifecycle.{stateOf, countsOf, accessedOf}
+use Rattle.sampleinfo.specs.Samples.{emptySample, markedRead, sampleStateOf, totalOf}
 use Rattle.sampleinfo.specs.declared.Sample.{Sample}
+use Rattle.sampleinfo.specs.declared.Info.{Info}
 use Rattle.model.specs.Pairs.{Pair}
-use Rattle.store.specs.Store.{Inst, Store, slotNamed, freed, accessedIn}
+use Rattle.model.specs.Views.{viewOf, rankFrom}
+use Rattle.store.specs.Store.{Inst, Store, instAt, slotNamed, freed, accessedIn, latestSlot}
 
 -- the slots that a list names
 abbrev pub slotsNamed : Store → List Pair → List ℕ
@@ -38,3 +41,42 @@ seenAt t owners (k ∷ ks) at = max (seenAt t owners ks at) (cond (eqb (getD own
 unfoldable pub viewedRows : ℕ → (ℕ → ℕ) → Store → Store
 viewedRows zero f s = s
 viewedRows (suc n) f s = let r : Store = viewedRows n f s in cond (eqb (f n) 0) r (accessedIn r n (f n))
+
+-- ---- the infos: "with everything as before the call"
+
+abbrev pub infoWith : ℕ → ℕ → ℕ → Inst → Sample → Info
+infoWith follow mrsic mrs i x = record {
+  body = x .body;
+  «sample_state» = sampleStateOf x;
+  «view_state» = viewOf (accessedOf (i .meta)) (totalOf x);
+  «instance_state» = stateOf (i .meta);
+  «generation_counts» = x .«generation_counts»;
+  «sample_rank» = follow;
+  «generation_rank» = rankFrom mrsic (totalOf x);
+  «absolute_generation_rank» = rankFrom mrs (totalOf x);
+  «publication_handle» = x .«writer_guid»;
+  «sequence_number» = x .«sequence_number»;
+}
+
+-- the instance of a slot's sample
+abbrev pub ownerAt : Store → ℕ → Inst
+ownerAt s k = instAt s (getD (s .owners) k 0)
+
+-- "the latest total of the last pair's instance"
+unfoldable pub lastOwned : Store → List ℕ → ℕ
+lastOwned s [] = 0
+lastOwned s (k ∷ []) = total (countsOf (ownerAt s k .meta))
+lastOwned s (k ∷ l ∷ ks) = lastOwned s (l ∷ ks)
+
+-- "For place p of m: sample_rank is m-1-p"
+unfoldable pub slotInfos : ℕ → ℕ → Store → List Sample → List ℕ → List Info
+slotInfos mrsic mrs s t [] = []
+slotInfos mrsic mrs s t (k ∷ ks) = infoWith (length ks) mrsic mrs (ownerAt s k) (getD t k emptySample) ∷ slotInfos mrsic mrs s t ks
+
+abbrev pub infosAt : Store → List Sample → List ℕ → List Info
+infosAt s t ks = slotInfos (lastOwned s ks) (totalOf (getD t (latestSlot s) emptySample)) s t ks
+
+-- not refusal 8, on the slots: every one is a slot, and no pair stands twice
+unfoldable pub allSlots : List ℕ → Bool
+allSlots [] = true
+allSlots (k ∷ ks) = ltb k 256 && allSlots ks
