@@ -1,0 +1,1 @@
+// No code: the demands, said of the code.
