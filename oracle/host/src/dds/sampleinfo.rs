@@ -1,0 +1,1 @@
+include!("../../../rustdds/src/dds/sampleinfo.rs");

@@ -1,0 +1,1 @@
+include!("../../../rustdds/src/structure/cache_change.rs");
