@@ -224,11 +224,12 @@ class World:
         if kind == "struct":
             vs = [(k, w.value(o, y, depth + 1)) for k, y in body]
             return None if any(v is None for _, v in vs) else f"{t} {{ " + ", ".join(f"{k}: {v or '()'}" for k, v in vs) + " }"
-        v = body[0]
-        k = re.match(r"(\w+)\s*(?:\((.*)\))?", v, re.S)
-        if "{" in v: return None
-        vs = [w.value(o, x, depth + 1) for x in parts(k.group(2) or "")]
-        return None if None in vs else f"{t}::{k.group(1)}" + (f"({', '.join(x or '()' for x in vs)})" if vs else "")
+        for v in body:                                        # the first variant of which a value can be written
+            k = re.match(r"(\w+)\s*(?:\((.*)\))?", v, re.S)
+            if "{" in v: continue
+            vs = [w.value(o, x, depth + 1) for x in parts(k.group(2) or "")]
+            if None not in vs: return f"{t}::{k.group(1)}" + (f"({', '.join(x or '()' for x in vs)})" if vs else "")
+        return None
 
     def stub(w, f):
         if f.name in f.crate.cores: return f.crate.cores[f.name]

@@ -9,3 +9,4 @@ pub mod Adds
 pub mod Choices
 pub mod Lists
 pub mod Demand3
+pub mod Topic

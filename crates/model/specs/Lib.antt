@@ -3,6 +3,7 @@ pub mod Views
 pub mod Model
 pub mod Session
 pub mod Topic
+pub mod TopicPromises
 pub mod Story
 pub mod Demand3
 pub mod PairLaws

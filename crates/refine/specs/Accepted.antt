@@ -1,23 +1,22 @@
 -- What an add that is accepted has passed, and the key and the slot that it is given.
 use mathlib.Core.Path.{_≡_, refl, sym, ap, _∙_, subst}
 use mathlib.Core.Bool.{Bool, true, false, not, _&&_, cond, true≢false}
-use mathlib.Core.List.{List, [], _∷_, _++_}
+use mathlib.Core.List.{List, [], _∷_}
 use mathlib.Core.Option.{Option, some, none}
-use Prim.Native.Nat.{ℕ, zero, suc, _+_, _*_, _≤_, _<_, max}
-use native.Mathlib.Nat.{mul-suc, mul-zero, mul-le-mul-left}
+use Prim.Native.Nat.{ℕ, _+_, _*_, _≤_, _<_}
+use native.Mathlib.Nat.{mul-suc, mul-le-mul-left}
 use native.Mathlib.Omega.{arith}
-use borrow.Author.Tests.{leb-true, leb-false, eqb-true}
+use borrow.Author.Tests.{leb-false}
 use lib.Dec.{eqb, leb}
 use lib.ListN.{length, length-append, length-replicate}
 use Rattle.lists.specs.Every.{Every}
-use Rattle.lists.specs.Count.{bit}
 use Rattle.sampleinfo.specs.Lifecycle.{isLast}
-use Rattle.keys.specs.Keys.{keyOf, Later}
+use Rattle.keys.specs.Keys.{Later}
 use Rattle.keys.specs.KeyLaws.{key-later}
 use Rattle.keys.specs.declared.Issued.{Issued}
 use Rattle.keys.specs.declared.Issued.the-variants as issued
 use Rattle.store.specs.Fit.{Deep}
-use Rattle.model.specs.Model.{Model, Instance, Live, Arrival, Place, gone, held, find, put, isNew, unkept, noKey, keyIn, issueOf, stateIn, wellFormed, lives, liveIn, liveOf, push, window, oldOf, refusalOf, arrived, roomy, slotOf, count, inSlot}
+use Rattle.model.specs.Model.{Model, Instance, Live, Arrival, Place, held, find, put, isNew, unkept, noKey, keyIn, issueOf, stateIn, wellFormed, lives, liveOf, push, window, oldOf, refusalOf, arrived, roomy, slotOf, count, inSlot}
 use Rattle.refine.specs.Good.{Good, Sized}
 use Rattle.refine.specs.Tables.{split}
 use Rattle.refine.specs.Counting.{put-here, put-there, find-here, find-there, Pushable, new, count-append, count-places, count-true, new-count, roomy-all, lowest-below, lowest-free}

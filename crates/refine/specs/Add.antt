@@ -1,38 +1,35 @@
 -- An add on the store of a model is the add on the model.
-use mathlib.Core.Path.{_≡_, refl, sym, ap, _∙_, subst}
-use mathlib.Core.Bool.{Bool, true, false, not, _&&_, cond}
-use mathlib.Core.List.{List, [], _∷_, _++_, map, append-assoc}
+use mathlib.Core.Path.{_≡_, refl, sym, ap, _∙_}
+use mathlib.Core.Bool.{Bool, true, false, _&&_, cond}
+use mathlib.Core.List.{List, [], _∷_, _++_, map}
 use mathlib.Core.Option.{Option, some, none}
-use Prim.Native.Nat.{ℕ, zero, suc, _+_, _-_, _*_, _≤_, _<_}
+use Prim.Native.Nat.{ℕ, zero, suc, _+_, _≤_, _<_}
 use native.Mathlib.Nat.{zero-add}
 use native.Mathlib.Numerals.{add-one}
 use native.Mathlib.Omega.{arith}
-use borrow.Author.Tests.{lt-ltb, le-ltb, ltb-true, ltb-false, leb-true, eqb-true, eq-eqb, ne-eqb}
+use borrow.Author.Tests.{lt-ltb, le-ltb, ltb-true, ltb-false, leb-true, eq-eqb, ne-eqb}
 use lib.ListN.{length, getD, set, length-map, List·getD-map}
 use lib.Dec.{ltb, leb, eqb}
 use Rattle.lists.specs.Blocks.{putAt, map-put}
 use Rattle.lists.specs.Count.{bit}
-use Rattle.slots.specs.Bits.{firstOne, after}
-use Rattle.sampleinfo.specs.Lifecycle.{countsOf, isLast, becomes, lifecycleOf}
+use Rattle.slots.specs.Bits.{firstOne}
+use Rattle.sampleinfo.specs.Lifecycle.{countsOf, isLast, lifecycleOf}
 use Rattle.sampleinfo.specs.Samples.{emptySample}
-use Rattle.sampleinfo.specs.declared.Sample.{Sample}
-use Rattle.sampleinfo.specs.declared.InstanceMetaData.{InstanceMetaData}
-use Rattle.sampleinfo.specs.declared.Stepped.the-variants as stepped
 use Rattle.keys.specs.Keys as K
 use Rattle.keys.specs.declared.Last.the-variants as last
 use Rattle.keys.specs.declared.Issued.{Issued}
 use Rattle.keys.specs.declared.Issued.the-variants as issued
-use Rattle.model.specs.Model.{Model, Instance, Live, Arrival, Place, gone, held, find, put, isNew, unkept, noKey, keyIn, keyed, issueOf, stateIn, wellFormed, lives, liveIn, liveOf, push, pushedOut, oldOf, orFresh, refusalOf, arrived, roomy, slotOf, lowestFrom, accept, adding, count, inSlot}
+use Rattle.model.specs.Model.{Model, Instance, Live, Arrival, Place, gone, held, find, isNew, unkept, noKey, keyIn, keyed, issueOf, stateIn, wellFormed, lives, liveIn, liveOf, push, pushedOut, oldOf, orFresh, refusalOf, arrived, roomy, slotOf, lowestFrom, accept, adding, count, inSlot}
 use Rattle.store.specs.Store as S
-use Rattle.store.specs.Store.{Inst, Store, Wanted, placeOf, freshInst, declined, oldest, movedOn}
-use Rattle.refine.specs.Layout.{cellOf, cellsOf, instOf, Entry, entry, entriesFrom, entriesOf, lookUp, tabFrom, slotsOf, slotOrNone, freeOf, keyOf, ownerOf, sampleOf, newestOf, storeOf, tableOf}
-use Rattle.refine.specs.Good.{Good, hasKey, Sized}
-use Rattle.refine.specs.Tables.{split, livesIn, uses, uses-append, uses-here, look-none, look-here, slot-at}
+use Rattle.store.specs.Store.{Inst, placeOf, freshInst, declined, movedOn}
+use Rattle.refine.specs.Layout.{cellsOf, instOf, Entry, entry, entriesFrom, entriesOf, lookUp, tabFrom, slotsOf, slotOrNone, freeOf, keyOf, ownerOf, sampleOf, newestOf, storeOf, tableOf}
+use Rattle.refine.specs.Good.{Good, hasKey}
+use Rattle.refine.specs.Tables.{bit-le, split, livesIn, uses, uses-append, uses-here, look-here, slot-at}
 use Rattle.refine.specs.Entries.{map-append, lives-of, window-live, before, behind, among, entries-put, entries-at, insts, put-is, find-is, new-is, name-is, place-le}
-use Rattle.refine.specs.Counting.{Pushable, new, count-append, roomy-count, roomy-all, new-count, lowest-below, lowest-free, short-of, count-true}
+use Rattle.refine.specs.Counting.{new, count-append, roomy-count, roomy-all, lowest-below, lowest-free, short-of, count-true}
 use Rattle.refine.specs.Accepted.{key-new, pushable, roomy-short, slot-free}
 use Rattle.refine.specs.GoodLaws.{not-reached, bit-one}
-use Rattle.refine.specs.Window.{outOf, stayIn, listOf, live-old, live-gone, live-held, out-cell, fresh-cells, push-cells, out-handle, handleIn, roomed, beforehand, afterwards, after-as, roomed-as, slots-out, slots-moved}
+use Rattle.refine.specs.Window.{outOf, stayIn, live-old, live-gone, live-held, out-cell, fresh-cells, push-cells, out-handle, handleIn, roomed, beforehand, afterwards, after-as, roomed-as, slots-out, slots-moved}
 use Rattle.refine.specs.Answers.{wantedOf, outSlot, metaAfter, recordFor, saidOf, stepOf, evicted, answerOf}
 
 -- ---- the lowest free slot
@@ -117,10 +114,6 @@ module _ (m : Model) (g : Good m) (a : Arrival) where
 
   entries-held : (s : Live) → entriesFrom 0 (new m a (held s)) ≡ afterwards a-part b-part at stay s
   entries-held s = entries-new (held s) ∙ ap (λ (ss : List Live). a-part ++ (map (entry at) ss ++ b-part)) (live-held (m .keep) (oldOf m a .places) s (pushable m g a))
-
-  bit-le : (b : Bool) → bit b ≤ 1
-  bit-le true = omega arith
-  bit-le false = omega arith
 
   once : (k : ℕ) → uses k (beforehand a-part b-part at stay out) ≤ 1
   once k = omega (arith, ap (uses k) entries-old, ap (count (inSlot k)) (lives-of 0 (m .instances)), g .slots k, bit-le (ltb k 256))

@@ -1,34 +1,31 @@
 -- The choices of a model are those found by going through the slots.
 use mathlib.Core.Path.{_≡_, refl, sym, ap, _∙_, subst}
 use mathlib.Core.Bool.{Bool, true, false, _&&_, not, cond}
-use mathlib.Core.List.{List, [], _∷_, _++_, map, append-assoc, append-nil}
+use mathlib.Core.List.{List, [], _∷_, _++_, map, append-assoc}
 use mathlib.Core.Option.{Option, some, none}
 use Prim.Native.Nat.{ℕ, zero, suc, _+_, _≤_, _<_}
-use native.Mathlib.Nat.{not-suc-le-zero, le-of-suc-le-suc, add-zero, zero-add}
+use native.Mathlib.Nat.{add-zero, zero-add}
 use native.Mathlib.Omega.{arith}
 use borrow.Author.Tests.{eq-eqb, ne-eqb, eqb-true, eqb-false, ltb-true, lt-ltb}
-use lib.ListN.{length, getD, drop, take, List·getD-map}
+use lib.ListN.{length, getD, drop, List·getD-map}
 use lib.Seq.{take-length}
 use lib.Dec.{eqb, ltb}
 use Rattle.lists.specs.Every.{Every, every-append, every-map}
 use Rattle.lists.specs.Count.{bit}
-use Rattle.slots.specs.Bits.{freeAt}
 use Rattle.sampleinfo.specs.Samples.{emptySample}
-use Rattle.sampleinfo.specs.declared.Sample.{Sample}
 use Rattle.readcondition.specs.declared.ReadCondition.{ReadCondition}
 use Rattle.model.specs.Pairs.{Hit, insert, sorted}
 use Rattle.pairs.specs.OrderLaws.{OtherKey, sorted-move}
-use Rattle.model.specs.Model.{Model, Instance, Live, find, liveIn, lives, count, chosen, hitOf, hitsIn, hits, one, scope}
-use Rattle.store.specs.Store as S
-use Rattle.store.specs.Store.{Inst, Store, placeOf, noInst, instAt}
-use Rattle.refine.specs.Layout.{instOf, cellsOf, Entry, entry, entriesFrom, entriesOf, lookUp, freeOf, keyOf, ownerOf, sampleOf, storeOf, tableOf}
+use Rattle.model.specs.Model.{Model, Instance, Live, find, liveIn, count, chosen, hitOf, hitsIn, hits, one, scope}
+use Rattle.store.specs.Store.{Inst, placeOf, noInst, instAt}
+use Rattle.refine.specs.Layout.{instOf, Entry, entry, entriesFrom, entriesOf, lookUp, freeOf, keyOf, ownerOf, sampleOf, storeOf, tableOf}
 use Rattle.refine.specs.Good.{Good, hasKey}
 use Rattle.refine.specs.Tables.{split, livesIn, uses, look-none, look-here}
-use Rattle.refine.specs.Entries.{map-append, lives-of, insts, unknown-at}
+use Rattle.refine.specs.Entries.{lives-of, insts, unknown-at}
 use Rattle.refine.specs.FitOf.{nobody}
 use Rattle.refine.specs.GoodLaws.{bit-one}
 use Rattle.refine.specs.Unique.{none-counted, places-below, places-from}
-use Rattle.refine.specs.Found.{every-left, every-under, every-over, every-look, front, rear, at-is, entries-here, entry-slots}
+use Rattle.refine.specs.Found.{every-left, every-under, every-look, front, rear, at-is, entries-here, entry-slots}
 use Rattle.refine.specs.Named.{free-at, key-at, owner-at, record-at, key-once, insts-of}
 use Rattle.refine.specs.Lists.{ownerAt}
 use Rattle.refine.specs.Chosen.{chosenWith, hitWith, inRow, rowOf, slotChosen, slotHits}

@@ -1,17 +1,17 @@
 -- Counting live samples, whatever is counted: one law for each change.
-use mathlib.Core.Path.{_≡_, refl, sym, ap, _∙_}
-use mathlib.Core.Bool.{Bool, true, false, cond}
+use mathlib.Core.Path.{_≡_, refl}
+use mathlib.Core.Bool.{Bool, true, false}
 use mathlib.Core.List.{List, [], _∷_, _++_, map}
 use mathlib.Core.Option.{Option, some, none}
 use Prim.Native.Nat.{ℕ, zero, suc, _+_, _≤_, _<_}
 use native.Mathlib.Omega.{arith}
 use borrow.Author.Tests.{eqb-true, eqb-false, ne-eqb, ltb-true, ltb-false, lt-ltb, le-ltb}
 use lib.Dec.{eqb, ltb}
-use lib.ListN.{length, replicate}
+use lib.ListN.{length}
 use Rattle.lists.specs.Count.{bit}
 use Rattle.model.specs.Pairs.{Pair}
-use Rattle.model.specs.Model.{Model, Instance, Live, Arrival, Place, gone, held, find, put, liveIn, lives, count, inSlot, lowestFrom, push, window, asRead, listedIn, touch, listed, oldOf, arrived, roomy}
-use Rattle.refine.specs.Tables.{split}
+use Rattle.model.specs.Model.{Model, Instance, Live, Arrival, Place, gone, held, find, put, liveIn, lives, count, inSlot, lowestFrom, push, asRead, listedIn, touch, listed, oldOf, arrived, roomy}
+use Rattle.refine.specs.Tables.{split, bit-le}
 use Rattle.refine.specs.Entries.{live-append, window-live}
 
 -- ---- find and put, a step at a time
@@ -230,9 +230,5 @@ short-of n ss h l =
     omega (
       arith,
       all-below n ss (λ j p. omega (arith, rw (le-ltb j n p) at (h j))),
-      fewer-used n ss (λ j. omega (arith, h j, one (ltb j n))) (lowestFrom n 0 ss) l (lowest-free n 0 ss (omega arith)),
+      fewer-used n ss (λ j. omega (arith, h j, bit-le (ltb j n))) (lowestFrom n 0 ss) l (lowest-free n 0 ss (omega arith)),
     )
-  where
-    one : (b : Bool) → bit b ≤ 1
-    one true = omega arith
-    one false = omega arith

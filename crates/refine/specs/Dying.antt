@@ -1,9 +1,9 @@
 -- The no-writers event, and the next name, on the store of a model.
 use mathlib.Core.Path.{_≡_, refl, sym, ap, _∙_}
-use mathlib.Core.Bool.{Bool, true, false, cond}
-use mathlib.Core.List.{List, [], _∷_, _++_, map}
+use mathlib.Core.Bool.{Bool, cond}
+use mathlib.Core.List.{List, [], _∷_}
 use mathlib.Core.Option.{Option, some, none}
-use Prim.Native.Nat.{ℕ, zero, suc, _+_, _≤_, _<_}
+use Prim.Native.Nat.{ℕ, _<_}
 use native.Mathlib.Omega.{arith}
 use borrow.Author.Tests.{lt-ltb, le-ltb}
 use lib.ListN.{length, getD, length-map}
@@ -11,10 +11,10 @@ use lib.Dec.{ltb}
 use Rattle.lists.specs.Blocks.{putAt, map-put}
 use Rattle.sampleinfo.specs.Lifecycle.{noWritersOf}
 use Rattle.model.specs.Model as M
-use Rattle.model.specs.Model.{Model, Instance, Live, Answer, refused, ok, added, selected, infos, next, find, put, left, liveIn, lives, dying, nextName}
+use Rattle.model.specs.Model.{Model, Instance, Answer, refused, ok, added, selected, infos, next, find, put, left, liveIn, lives, dying, nextName}
 use Rattle.store.specs.Store as S
-use Rattle.store.specs.Store.{Inst, Store, placeOf, noInst}
-use Rattle.refine.specs.Layout.{instOf, Entry, entriesFrom, entriesOf, slotsOf, freeOf, keyOf, ownerOf, sampleOf, newestOf, storeOf, tableOf}
+use Rattle.store.specs.Store.{placeOf, noInst}
+use Rattle.refine.specs.Layout.{instOf, entriesFrom, slotsOf, sampleOf, storeOf, tableOf}
 use Rattle.refine.specs.Tables.{livesIn}
 use Rattle.refine.specs.Entries.{lives-of, among, entries-put, entries-at, insts, put-is, found-at, found-name, unknown-at}
 use Rattle.refine.specs.FitOf.{get-inst, nobody}

@@ -4,14 +4,14 @@ use mathlib.Core.Bool.{Bool, true, false, cond}
 use mathlib.Core.List.{List, [], _∷_, _++_, map, append-assoc}
 use mathlib.Core.Option.{Option, some, none}
 use Prim.Native.Nat.{ℕ, zero, suc, _+_, _≤_, _<_}
-use native.Mathlib.Nat.{not-suc-le-zero, le-of-suc-le-suc, add-zero, add-suc}
+use native.Mathlib.Nat.{not-suc-le-zero, le-of-suc-le-suc, add-zero}
 use native.Mathlib.Omega.{arith}
 use borrow.Author.Tests.{eqb-true}
-use lib.ListN.{length, getD, take, drop, replicate, length-map, List·getD-map}
-use lib.Dec.{leb, ltb, eqb, leb·suc-zero, leb·suc-suc}
+use lib.ListN.{length, getD, take, drop, replicate}
+use lib.Dec.{leb, eqb, leb·suc-zero, leb·suc-suc}
 use Rattle.lists.specs.Blocks.{putAt}
 use Rattle.sampleinfo.specs.declared.InstanceState.{InstanceState}
-use Rattle.model.specs.Model.{Live, Place, gone, held, Instance, Model, find, put, liveIn, lives, window, isNew, orFresh}
+use Rattle.model.specs.Model.{Live, Place, gone, held, Instance, find, put, liveIn, lives, window, isNew, orFresh}
 use Rattle.store.specs.Store.{Inst, placeOf}
 use Rattle.refine.specs.Layout.{Entry, entry, entriesFrom, instOf}
 use Rattle.refine.specs.Tables.{livesIn}

@@ -1,24 +1,19 @@
 -- A list taken or read on the model is its slots freed, cleared or marked one after the other.
-use mathlib.Core.Path.{_≡_, refl, sym, ap, _∙_, subst}
+use mathlib.Core.Path.{_≡_, refl, sym, ap, _∙_}
 use mathlib.Core.Bool.{Bool, true, false, _&&_, _||_, not, cond, true≢false}
-use mathlib.Core.List.{List, [], _∷_, _++_, map}
+use mathlib.Core.List.{List, [], _∷_, map}
 use mathlib.Core.Option.{Option, some, none}
-use Prim.Native.Nat.{ℕ, zero, suc, _+_, _≤_, _<_}
-use native.Mathlib.Omega.{arith}
-use borrow.Author.Tests.{eq-eqb, ne-eqb, eqb-true, eqb-false, not-true}
-use lib.ListN.{length, getD, set}
+use Prim.Native.Nat.{ℕ}
+use borrow.Author.Tests.{eq-eqb, eqb-true, eqb-false, not-true}
+use lib.ListN.{getD}
 use lib.Dec.{eqb}
-use Rattle.sampleinfo.specs.Samples.{emptySample, markedRead}
-use Rattle.sampleinfo.specs.declared.Sample.{Sample}
 use Rattle.model.specs.Pairs.{Pair, among, repeats, samePair}
-use Rattle.model.specs.Model.{Model, Instance, Live, Place, gone, held, find, liveIn, keyed, named, present, isLive, allLive, fine, asRead, mark, touch}
-use Rattle.store.specs.Store as S
-use Rattle.store.specs.Store.{Store, placeOf, slotNamed, freed}
+use Rattle.model.specs.Model.{Model, Instance, Live, Place, gone, held, find, liveIn, keyed, named, present, isLive, allLive, fine, mark, touch}
+use Rattle.store.specs.Store.{slotNamed, freed}
 use Rattle.refine.specs.Layout.{slotOrNone, storeOf, tableOf}
 use Rattle.refine.specs.Good.{Good}
 use Rattle.refine.specs.Tables.{split}
-use Rattle.refine.specs.Entries.{insts, found-name}
-use Rattle.refine.specs.Counting.{find-here, find-there}
+use Rattle.refine.specs.Entries.{found-name}
 use Rattle.refine.specs.Named.{slot-named, insts-of, Known, known}
 use Rattle.refine.specs.Touch.{touchedIn, touchedBy, touched-none, touched-more, good-touched, touch-own, touch-other}
 use Rattle.refine.specs.Take.{store-taken, table-taken, store-read, table-read}

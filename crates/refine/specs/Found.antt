@@ -1,22 +1,22 @@
 -- Every live sample of a good cache is found in its slot, with the place of its instance.
 use mathlib.Core.Path.{_≡_, refl, sym, ap, _∙_, subst}
 use mathlib.Core.Bool.{Bool, true, false, cond}
-use mathlib.Core.List.{List, [], _∷_, _++_, map, append-assoc, append-nil}
-use mathlib.Core.Option.{Option, some, none}
-use Prim.Native.Nat.{ℕ, zero, suc, _+_, _≤_, _<_}
+use mathlib.Core.List.{List, [], _∷_, _++_, map, append-assoc}
+use mathlib.Core.Option.{some}
+use Prim.Native.Nat.{ℕ, suc, _≤_, _<_}
 use native.Mathlib.Nat.{zero-add}
 use native.Mathlib.Omega.{arith}
-use borrow.Author.Tests.{eq-eqb, eqb-true, ltb-true}
+use borrow.Author.Tests.{eqb-true, ltb-true}
 use lib.ListN.{length, getD}
 use lib.Dec.{eqb, ltb}
-use Rattle.lists.specs.Every.{Every, every-append, every-map}
+use Rattle.lists.specs.Every.{Every}
 use Rattle.lists.specs.Count.{bit}
-use Rattle.model.specs.Model.{Model, Instance, Live, find, liveIn, lives, count, inSlot, keyed}
+use Rattle.model.specs.Model.{Model, Instance, Live, find, liveIn, count, inSlot, keyed}
 use Rattle.store.specs.Store.{placeOf}
-use Rattle.refine.specs.Layout.{Entry, entry, entriesFrom, entriesOf, lookUp}
-use Rattle.refine.specs.Good.{Good, hasKey}
-use Rattle.refine.specs.Tables.{split, livesIn, uses, uses-here, uses-append, look-here}
-use Rattle.refine.specs.Entries.{lives-of, before, behind, among, entries-at, insts, found-at}
+use Rattle.refine.specs.Layout.{Entry, entry, entriesOf, lookUp}
+use Rattle.refine.specs.Good.{Good}
+use Rattle.refine.specs.Tables.{bit-le, uses, uses-here, uses-append, look-here}
+use Rattle.refine.specs.Entries.{lives-of, before, behind, entries-at, insts, found-at}
 use Rattle.refine.specs.GoodLaws.{bit-one}
 use Rattle.refine.specs.FitOf.{nobody}
 use Rattle.refine.specs.Dying.{nobody-live}
@@ -92,10 +92,6 @@ abbrev pub Placed : List Entry → Entry → Type 0
 Placed es e = (e .live .slot < 256) × (lookUp (e .live .slot) es ≡ some e)
 
 module _ (all : List Entry) (slots : (k : ℕ) → uses k all ≤ bit (ltb k 256)) where
-  bit-le : (b : Bool) → bit b ≤ 1
-  bit-le true = omega arith
-  bit-le false = omega arith
-
   placed-from : (a b : List Entry) → all ≡ a ++ b → Every (Placed all) b
   unfolding Every
   placed-from a [] q = tt

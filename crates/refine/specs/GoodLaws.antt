@@ -1,37 +1,35 @@
 -- A fresh cache is good, and every call keeps it so.
-use mathlib.Core.Path.{_≡_, refl, sym, ap, _∙_, subst}
+use mathlib.Core.Path.{_≡_, refl, sym, ap, _∙_}
 use mathlib.Core.Bool.{Bool, true, false, _&&_, _||_, cond, true≢false}
 use mathlib.Core.List.{List, [], _∷_, _++_, map}
 use mathlib.Core.Option.{Option, some, none}
-use Prim.Native.Nat.{ℕ, zero, suc, _+_, _*_, _≤_, _<_}
-use native.Mathlib.Nat.{not-suc-le-zero, le-of-suc-le-suc, mul-comm}
+use Prim.Native.Nat.{ℕ, _+_, _*_, _≤_, _<_}
+use native.Mathlib.Nat.{mul-comm}
 use native.Mathlib.Omega.{arith}
-use borrow.Author.Tests.{eqb-true, eqb-false, eq-eqb, lt-ltb, ltb-true, le-leb, lt-leb, leb-true, leb-false}
+use borrow.Author.Tests.{eqb-true, eq-eqb, lt-ltb, le-leb, lt-leb, leb-true, leb-false}
 use lib.Dec.{eqb, leb, ltb}
 use lib.IntN.{ℤ, pos, negsuc}
-use lib.ListN.{length, getD, length-map}
+use lib.ListN.{length, length-map}
 use Rattle.lists.specs.Every.{Every, every-append, every-map}
 use Rattle.lists.specs.Count.{bit}
 use Rattle.sampleinfo.specs.Counts.{total}
-use Rattle.sampleinfo.specs.Lifecycle.{stateOf, countsOf, isReborn, isLast, becomes, newInstance, noWritersOf}
+use Rattle.sampleinfo.specs.Lifecycle.{stateOf, countsOf, isReborn, isLast, becomes}
 use Rattle.sampleinfo.specs.LifecycleLaws.{total-after}
 use Rattle.sampleinfo.specs.declared.InstanceState.{InstanceState}
 use Rattle.sampleinfo.specs.declared.InstanceMetaData.{InstanceMetaData}
 use Rattle.keys.specs.Keys.{Later}
 use Rattle.keys.specs.declared.Last.{Last}
 use Rattle.keys.specs.declared.Last.the-variants as last
-use Rattle.store.specs.Fit.{Deep, Fit, depthOf}
-use Rattle.store.specs.Store.{Inst, noInst}
+use Rattle.store.specs.Fit.{Deep, depthOf}
 use Rattle.model.specs.Pairs.{Pair}
 use Rattle.model.specs.Model as M
-use Rattle.model.specs.Model.{Model, Instance, Live, Arrival, SetUp, Call, setUp, add, dies, look, list, after, Place, gone, held, find, put, liveIn, lives, count, inSlot, push, window, asRead, listedIn, touch, listed, left, keyIn, issueOf, stateIn, oldOf, refusalOf, arrived, roomy, slotOf, accept, adding, dying, access, accessing, fine, within, keepOf, keepFits, isZero, countsKept, countsNone, fresh, settingUp, step}
+use Rattle.model.specs.Model.{Model, Instance, Live, Arrival, SetUp, Call, setUp, add, dies, look, list, after, Place, gone, held, find, put, liveIn, lives, count, inSlot, push, asRead, listedIn, touch, listed, left, keyIn, issueOf, stateIn, oldOf, refusalOf, arrived, slotOf, accept, adding, dying, access, accessing, fine, within, keepOf, keepFits, isZero, countsKept, countsNone, fresh, settingUp, step}
 use Rattle.model.specs.Story.{run}
-use Rattle.refine.specs.Layout.{cellOf, cellsOf, instOf, entriesFrom, slotsOf, storeOf, newestOf, slotOrNone, freeOf, keyOf, ownerOf}
 use Rattle.refine.specs.Good.{Good, hasKey, timesHeld, Sized, reached, Rising, Bounded, InOrder}
-use Rattle.refine.specs.Tables.{split, length-slots}
+use Rattle.refine.specs.Tables.{split}
 use Rattle.refine.specs.Entries.{live-append, window-live, found-name}
 use Rattle.refine.specs.Counting.{put-here, put-there, find-here, find-there, livesOf, new, count-append, count-put, count-listed, old-count, roomy-count, new-count}
-use Rattle.refine.specs.Accepted.{Passed, passed, key-new, newcomer, length-put, every-find, every-put, every-old, pushable, new-sized, new-few, slot-below, slot-free}
+use Rattle.refine.specs.Accepted.{passed, key-new, newcomer, length-put, every-find, every-put, every-old, pushable, new-sized, new-few, slot-below, slot-free}
 
 -- ---- names
 

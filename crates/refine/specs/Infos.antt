@@ -1,25 +1,18 @@
 -- The infos of a list, and whether it is fine, on the slots that it names.
-use mathlib.Core.Path.{_≡_, refl, sym, ap, _∙_}
-use mathlib.Core.Bool.{Bool, true, false, _&&_, not, cond}
-use mathlib.Core.List.{List, [], _∷_, _++_, map}
-use mathlib.Core.Option.{Option, some, none}
-use Prim.Native.Nat.{ℕ, _+_}
-use lib.ListN.{length, getD, length-map}
-use lib.Dec.{ltb}
-use Rattle.sampleinfo.specs.Counts.{total}
-use Rattle.sampleinfo.specs.Lifecycle.{countsOf}
-use Rattle.sampleinfo.specs.Samples.{emptySample, totalOf}
-use Rattle.sampleinfo.specs.declared.Info.{Info}
+use mathlib.Core.Path.{_≡_, refl, ap, _∙_}
+use mathlib.Core.Bool.{true, _&&_, not}
+use mathlib.Core.List.{List, [], _∷_}
+use Prim.Native.Nat.{ℕ}
+use lib.ListN.{length-map}
 use Rattle.model.specs.Pairs.{Pair, repeats}
-use Rattle.model.specs.Model.{Model, Instance, find, lives, named, isLive, allLive, fine, latest, latestTotal, instanceTotal, lastTotal, infoAt, infosOf, infosFor}
-use Rattle.store.specs.Store.{Inst, Store, placeOf, instAt, slotNamed, latestSlot}
+use Rattle.model.specs.Model.{Model, isLive, allLive, fine, lastTotal, infosOf, infosFor}
+use Rattle.store.specs.Store.{placeOf, instAt, slotNamed}
 use Rattle.refine.specs.Layout.{instOf, storeOf, tableOf}
 use Rattle.refine.specs.Good.{Good}
-use Rattle.refine.specs.Entries.{insts}
-use Rattle.refine.specs.Named.{insts-of, inst-here, Known, live-is}
+use Rattle.refine.specs.Named.{insts-of, inst-here, live-is}
 use Rattle.refine.specs.Latest.{latest-total}
 use Rattle.refine.specs.Fold.{and-true, Names, names-of, known-of}
-use Rattle.refine.specs.Lists.{slotsNamed, infoWith, ownerAt, lastOwned, slotInfos, infosAt, allSlots}
+use Rattle.refine.specs.Lists.{slotsNamed, ownerAt, lastOwned, slotInfos, infosAt, allSlots}
 
 module _ (m : Model) (g : Good m) where
   owner-is : (p : Pair) (n : Names m p) → ownerAt (storeOf m) (slotNamed (storeOf m) p) ≡ instOf (m .keep) (n .i)

@@ -1,11 +1,11 @@
 -- The latest-keyed live sample stands in the slot that the store calls the latest.
 use mathlib.Core.Path.{_≡_, refl, sym, ap, _∙_, subst}
-use mathlib.Core.Bool.{Bool, true, false, _&&_, cond}
-use mathlib.Core.List.{List, [], _∷_, _++_, map, append-assoc}
+use mathlib.Core.Bool.{Bool, true, false}
+use mathlib.Core.List.{List, [], _∷_, _++_, append-assoc}
 use mathlib.Core.Option.{Option, some, none}
 use Prim.Native.Nat.{ℕ, zero, suc, _+_, _≤_, _<_}
 use native.Mathlib.Omega.{arith}
-use borrow.Author.Tests.{eq-eqb, eqb-true, eqb-false, lt-ltb, le-ltb, ltb-true, ltb-false, leb-true}
+use borrow.Author.Tests.{eq-eqb, eqb-true, eqb-false, lt-ltb, ltb-true, ltb-false, leb-true}
 use lib.ListN.{length, getD, List·getD-eq-default}
 use lib.Dec.{eqb, ltb}
 use Rattle.lists.specs.Every.{Every, every-map}
@@ -14,9 +14,9 @@ use Rattle.slots.specs.Bits.{freeAt}
 use Rattle.sampleinfo.specs.Samples.{emptySample, totalOf}
 use Rattle.keys.specs.declared.Last.{Last}
 use Rattle.keys.specs.declared.Last.the-variants as last
-use Rattle.model.specs.Model.{Model, Instance, Live, lives, count, keyed, later, latest, latestTotal}
+use Rattle.model.specs.Model.{Model, Live, lives, count, keyed, later, latest, latestTotal}
 use Rattle.store.specs.Store.{Store, laterSlot, greatestFrom, latestSlot}
-use Rattle.refine.specs.Layout.{Entry, entry, entriesOf, lookUp, slotOrNone, freeOf, keyOf, sampleOf, newestOf, storeOf, tableOf}
+use Rattle.refine.specs.Layout.{Entry, entriesOf, lookUp, slotOrNone, freeOf, keyOf, sampleOf, newestOf, storeOf, tableOf}
 use Rattle.refine.specs.Good.{Good, hasKey, reached}
 use Rattle.refine.specs.GoodLaws.{all-reached}
 use Rattle.refine.specs.Tables.{split, length-slots}

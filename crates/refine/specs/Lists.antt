@@ -1,7 +1,6 @@
 -- What reading and taking a list of pairs does to the store and to the table, slot by slot.
-use mathlib.Core.Bool.{Bool, true, false, _&&_, cond}
+use mathlib.Core.Bool.{Bool, true, _&&_, cond}
 use mathlib.Core.List.{List, [], _∷_, map}
-use mathlib.Core.Option.{Option, some, none}
 use Prim.Native.Nat.{ℕ, zero, suc, max}
 use lib.ListN.{length, getD, set}
 use lib.Dec.{eqb, ltb}

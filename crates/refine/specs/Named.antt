@@ -4,27 +4,25 @@ use mathlib.Core.Bool.{Bool, true, false, _&&_, not, cond}
 use mathlib.Core.List.{List, [], _∷_, _++_, map}
 use mathlib.Core.Option.{Option, some, none}
 use Prim.Native.Nat.{ℕ, zero, suc, _+_, _≤_, _<_}
-use native.Mathlib.Nat.{zero-add}
 use native.Mathlib.Omega.{arith}
-use borrow.Author.Tests.{eq-eqb, ne-eqb, eqb-true, eqb-false, lt-ltb, le-ltb, ltb-true, ltb-false}
-use lib.ListN.{length, getD, take, drop, length-map}
+use borrow.Author.Tests.{eq-eqb, ne-eqb, eqb-true, eqb-false, lt-ltb, le-ltb}
+use lib.ListN.{length, getD, drop, length-map}
 use lib.Dec.{eqb, ltb}
 use Rattle.lists.specs.Every.{Every, every-append, every-map}
 use Rattle.lists.specs.Count.{bit}
 use Rattle.slots.specs.Bits.{freeAt}
 use Rattle.sampleinfo.specs.Samples.{emptySample}
 use Rattle.model.specs.Pairs.{Pair}
-use Rattle.model.specs.Model.{Model, Instance, Live, Place, gone, held, find, liveIn, lives, count, inSlot, keyed, named, present, isLive}
-use Rattle.store.specs.Store as S
+use Rattle.model.specs.Model.{Model, Instance, Live, Place, gone, held, find, liveIn, lives, count, keyed, named, present, isLive}
 use Rattle.store.specs.Store.{Inst, Store, placeOf, noInst, cellKeyed, slotKeyed, slotFor, slotNamed, instAt}
-use Rattle.refine.specs.Layout.{cellOf, cellsOf, instOf, Entry, entry, entriesFrom, entriesOf, lookUp, slotsOf, slotOrNone, freeOf, keyOf, ownerOf, sampleOf, storeOf, tableOf}
+use Rattle.refine.specs.Layout.{cellOf, instOf, Entry, entry, entriesOf, lookUp, slotOrNone, freeOf, keyOf, ownerOf, sampleOf, storeOf, tableOf}
 use Rattle.refine.specs.Good.{Good, hasKey, reached}
-use Rattle.refine.specs.Tables.{split, livesIn, slot-at}
-use Rattle.refine.specs.Entries.{lives-of, lives-entry, map-append, insts, unknown-at, before, behind}
+use Rattle.refine.specs.Tables.{bit-le, split, livesIn, slot-at}
+use Rattle.refine.specs.Entries.{lives-of, lives-entry, map-append, insts, unknown-at}
 use Rattle.refine.specs.Counting.{count-append}
 use Rattle.refine.specs.FitOf.{get-inst, nobody}
 use Rattle.refine.specs.Unique.{keyed-skip, keyed-first, keyed-counted, unkeyed, unique, places-below, places-from}
-use Rattle.refine.specs.Found.{every-left, every-right, every-over, every-under, every-all, every-look, look-slot, every-keyed, keyed-key, Placed, every-placed, at, front, rear, at-below, at-is, entries-here, here-placed}
+use Rattle.refine.specs.Found.{every-over, every-under, every-look, look-slot, every-keyed, keyed-key, Placed, at, front, rear, at-below, at-is, entries-here, here-placed}
 
 -- ---- under a keep count: among the instance's cells
 
@@ -86,10 +84,6 @@ module _ (m : Model) (g : Good m) where
 
   hits-are : (key at k : ℕ) → k < 256 → hit key at (storeOf m) k ≡ hitIn key at (lookUp k (entriesOf m))
   hits-are key at k h = rw (free-at k h, key-at k h, owner-at k h) (hit-is key at (lookUp k (entriesOf m)))
-
-  bit-le : (b : Bool) → bit b ≤ 1
-  bit-le true = omega arith
-  bit-le false = omega arith
 
   pub key-once : (k : ℕ) → count (hasKey k) (lives (m .instances)) ≤ 1
   key-once k = omega (arith, g .keys k, bit-le (reached (m .last) k))

@@ -1,6 +1,5 @@
 -- Memory says all: two good models with the same store and table have the same instances with the same live samples, in order.
 use mathlib.Core.Path.{_≡_, refl, sym, ap, _∙_, subst}
-use mathlib.Core.Bool.{Bool, true, false, cond}
 use mathlib.Core.List.{List, [], _∷_, _++_, map}
 use mathlib.Core.Option.{Option, some, none}
 use mathlib.Core.Logic.{_⊎_, inl, inr}
@@ -8,22 +7,23 @@ use Prim.Native.Nat.{ℕ, zero, suc, _+_, _≤_, _<_}
 use native.Mathlib.Nat.{not-suc-le-zero, le-of-suc-le-suc, zero-add}
 use native.Mathlib.Omega.{arith}
 use borrow.Author.Tests.{ltb-true, ltb-false, le-ltb}
-use lib.ListN.{length, getD, take, drop, length-map}
+use lib.ListN.{length, getD, drop, length-map}
 use lib.Seq.{ext-getD}
-use lib.Dec.{eqb, ltb}
+use lib.Dec.{ltb}
 use Rattle.lists.specs.Every.{Every, every-append, every-map}
-use Rattle.lists.specs.Count.{bit}
 use Rattle.sampleinfo.specs.Samples.{emptySample}
 use Rattle.sampleinfo.specs.declared.Sample.{Sample}
 use Rattle.sampleinfo.specs.declared.InstanceMetaData.{InstanceMetaData}
-use Rattle.model.specs.Model.{Model, Instance, Live, Place, gone, held, find, liveIn, lives, count, inSlot}
+use Rattle.keys.specs.declared.Last.{Last}
+use Rattle.model.specs.Model.{Model, Instance, Live, Place, gone, held, liveIn}
 use Rattle.store.specs.Store.{Inst, Store, noInst}
-use Rattle.refine.specs.Layout.{cellOf, cellsOf, instOf, Entry, entry, entriesFrom, entriesOf, lookUp, freeOf, keyOf, ownerOf, sampleOf, storeOf, tableOf}
+use Rattle.refine.specs.Layout.{cellOf, cellsOf, instOf, Entry, entry, entriesOf, lookUp, freeOf, keyOf, ownerOf, sampleOf, storeOf, tableOf}
 use Rattle.refine.specs.Good.{Good, Rising, InOrder}
-use Rattle.refine.specs.Tables.{split, uses, look-none}
-use Rattle.refine.specs.Entries.{insts, among, before, behind, entries-at}
+use Rattle.refine.specs.Tables.{split, look-none}
+use Rattle.refine.specs.Entries.{insts, before, behind, entries-at}
 use Rattle.refine.specs.FitOf.{every-at, get-inst, nobody}
 use Rattle.refine.specs.Dying.{nobody-live}
+use Rattle.refine.specs.Touch.{map-ext}
 use Rattle.refine.specs.Unique.{places-below, places-from}
 use Rattle.refine.specs.Found.{every-left, every-right, every-under, every-over, every-look, look-slot, Placed, entry-slots, every-placed}
 use Rattle.refine.specs.Named.{free-at, key-at, owner-at, record-at, insts-of}
@@ -210,3 +210,49 @@ module _ (m n : Model) (g : Good m) (h : Good n) (store : storeOf m ≡ storeOf 
       each r l =
           let b : r < length (m .instances) = omega (arith, length-map (m .instances) shownOf) in
           get-map shownOf (m .instances) r nobody noShown b ∙ shown-same r b ∙ sym (get-map shownOf (n .instances) r nobody noShown (omega (arith, as-many)))
+
+-- ---- under a keep count the cells tell the places too, so that one model alone lies so in memory
+
+abbrev placeFor : Option Entry → Place
+placeFor none = gone
+placeFor (some e) = held (e .live)
+
+places-from-cells : (es : List Entry) (r : ℕ) (ps : List Place) → lookUp 256 es ≡ none → Every (λ s. lookUp (s .slot) es ≡ some (entry r s)) (liveIn ps)
+    → map (λ c. placeFor (lookUp c es)) (map cellOf ps) ≡ ps
+unfolding liveIn Every
+places-from-cells es r [] z h = refl
+places-from-cells es r (gone ∷ ps) z h = rw (z, places-from-cells es r ps z h)
+places-from-cells es r (held s ∷ ps) z h = rw (h .0, places-from-cells es r ps z (h .1))
+
+module _ (m n : Model) (g : Good m) (h : Good n) (store : storeOf m ≡ storeOf n) (table : tableOf m ≡ tableOf n) (d : ℕ) (kept : m .keep ≡ some d) where
+  kept-too : n .keep ≡ some d
+  kept-too = sym (keep-same m n g h store table) ∙ kept
+
+  module _ (r : ℕ) (b : r < length (m .instances)) where
+    there-too : r < length (n .instances)
+    there-too = below m n g h store table r b
+
+    places-of : (x : Model) (f : Good x) (l : r < length (x .instances)) → map (λ c. placeFor (lookUp c (entriesOf x))) (map cellOf (getD (x .instances) r nobody .places)) ≡ getD (x .instances) r nobody .places
+    places-of x f l = places-from-cells (entriesOf x) r (getD (x .instances) r nobody .places) (past-none m n g h store table x f 256 (omega arith)) (found x f r l)
+
+    cells-same : map cellOf (getD (m .instances) r nobody .places) ≡ map cellOf (getD (n .instances) r nobody .places)
+    cells-same = sym (ap (λ (k : Option ℕ). cellsOf k (getD (m .instances) r nobody .places)) kept) ∙ ap (λ (i : Inst). i .cells) (inst-same m n g h store table r b)
+        ∙ ap (λ (k : Option ℕ). cellsOf k (getD (n .instances) r nobody .places)) kept-too
+
+    places-same : getD (m .instances) r nobody .places ≡ getD (n .instances) r nobody .places
+    places-same = sym (places-of m g b)
+        ∙ map-ext (λ c. placeFor (lookUp c (entriesOf m))) (λ c. placeFor (lookUp c (entriesOf n))) (λ c. ap placeFor (look-same m n g h store table c)) (map cellOf (getD (m .instances) r nobody .places))
+        ∙ ap (map (λ c. placeFor (lookUp c (entriesOf n)))) cells-same ∙ places-of n h there-too
+
+    instance-same : getD (m .instances) r nobody ≡ getD (n .instances) r nobody
+    instance-same = ap (λ (ps : List Place). record { name = getD (m .instances) r nobody .name; meta = getD (m .instances) r nobody .meta; places = ps }) places-same
+        ∙ ap (λ (x : Inst). record { name = x .name; meta = x .meta; places = getD (n .instances) r nobody .places }) (inst-same m n g h store table r b)
+
+  instances-same : m .instances ≡ n .instances
+  instances-same = ext-getD nobody (m .instances) (n .instances) (as-many m n g h store table) instance-same
+
+  pub one-model : m ≡ n
+  one-model = ap (λ (is : List Instance). record { keep = m .keep; room = m .room; last = m .last; instances = is }) instances-same
+      ∙ ap (λ (k : Option ℕ). record { keep = k; room = m .room; last = m .last; instances = n .instances }) (keep-same m n g h store table)
+      ∙ ap (λ (j : ℕ). record { keep = n .keep; room = j; last = m .last; instances = n .instances }) (room-same m n g h store table)
+      ∙ ap (λ (l : Last). record { keep = n .keep; room = n .room; last = l; instances = n .instances }) (last-same m n g h store table)

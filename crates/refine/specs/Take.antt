@@ -1,35 +1,33 @@
 -- One pair taken or read: on the store and on the table.
-use mathlib.Core.Path.{_≡_, refl, sym, ap, _∙_, subst}
-use mathlib.Core.Bool.{Bool, true, false, _&&_, _||_, not, cond}
+use mathlib.Core.Path.{_≡_, refl, sym, ap, _∙_}
+use mathlib.Core.Bool.{Bool, true, false, cond}
 use mathlib.Core.List.{List, [], _∷_, _++_, map, append-assoc}
 use mathlib.Core.Option.{Option, some, none}
-use mathlib.Core.Logic.{_≢_}
-use Prim.Native.Nat.{ℕ, zero, suc, _+_, _≤_, _<_}
+use Prim.Native.Nat.{ℕ, zero, suc, _+_, _≤_}
 use native.Mathlib.Nat.{zero-add}
 use native.Mathlib.Omega.{arith}
 use borrow.Author.Tests.{eq-eqb, ne-eqb, eqb-true, eqb-false}
-use lib.ListN.{length, getD, set, length-map}
+use lib.ListN.{getD, set, length-map}
 use lib.Dec.{eqb, ltb}
 use Rattle.lists.specs.Every.{Every, every-map}
 use Rattle.lists.specs.Count.{bit}
 use Rattle.lists.specs.Blocks.{putAt, map-put, put-same}
 use Rattle.sampleinfo.specs.Samples.{emptySample, markedRead}
-use Rattle.sampleinfo.specs.declared.Sample.{Sample}
 use Rattle.keys.specs.declared.Last.{Last}
 use Rattle.keys.specs.declared.Last.the-variants as last
-use Rattle.model.specs.Pairs.{Pair, among}
-use Rattle.model.specs.Model.{Model, Instance, Live, Place, gone, held, find, liveIn, lives, count, inSlot, keyed, asRead, mark, touch}
+use Rattle.model.specs.Pairs.{Pair}
+use Rattle.model.specs.Model.{Model, Instance, Live, Place, gone, held, find, liveIn, lives, count, inSlot, keyed, asRead, touch}
 use Rattle.store.specs.Store as S
-use Rattle.store.specs.Store.{Inst, Store, placeOf, emptied, freed, instAt}
+use Rattle.store.specs.Store.{Inst, placeOf, emptied, freed, instAt}
 use Rattle.refine.specs.Layout.{cellOf, cellsOf, instOf, Entry, entry, entriesFrom, entriesOf, lookUp, tabFrom, slotsOf, slotOrNone, freeOf, keyOf, ownerOf, sampleOf, newestOf, storeOf, tableOf}
 use Rattle.refine.specs.Good.{Good, hasKey}
-use Rattle.refine.specs.Tables.{split, livesIn, uses, uses-here, look-here, slots-less, slots-swap}
-use Rattle.refine.specs.Entries.{map-append, found-name, lives-of, insts, entries-put, before, behind}
-use Rattle.refine.specs.Counting.{count-append, find-here, find-there}
+use Rattle.refine.specs.Tables.{bit-le, split, livesIn, uses, uses-here, slots-less, slots-swap}
+use Rattle.refine.specs.Entries.{map-append, found-name, lives-of, insts, entries-put}
+use Rattle.refine.specs.Counting.{count-append}
 use Rattle.refine.specs.FitOf.{in-a-slot}
 use Rattle.refine.specs.Add.{keyed-here}
 use Rattle.refine.specs.Unique.{unique}
-use Rattle.refine.specs.Found.{Placed, at, front, rear, at-below, entries-here, here-placed, entry-slots, every-keyed, keyed-key}
+use Rattle.refine.specs.Found.{Placed, at, front, rear, at-below, entries-here, here-placed, entry-slots, keyed-key}
 use Rattle.refine.specs.Named.{insts-of, inst-here, named-placed, key-once, lives-parts}
 use Rattle.refine.specs.Touch.{touchedIn, touchedBy, touch-own, touched-one}
 
@@ -215,10 +213,6 @@ module _ (m : Model) (g : Good m) (p : Pair) (i : Instance) (e : find (p .name) 
 
   entries-read : entriesOf (touchedBy false m (p ∷ [])) ≡ a-part ++ entry row (asRead s) ∷ b-part
   entries-read = entries-touched false ∙ ap (λ (ss : List Live). f-part ++ (map (entry row) ss ++ r-part)) (parts .read) ∙ regroup (parts .a) (asRead s) (parts .b)
-
-  bit-le : (b : Bool) → bit b ≤ 1
-  bit-le true = omega arith
-  bit-le false = omega arith
 
   slot-once : uses (s .slot) (a-part ++ entry row s ∷ b-part) ≤ 1
   slot-once = omega (arith, ap (uses (s .slot)) entries-whole, entry-slots m g (s .slot), bit-le (ltb (s .slot) 256))

@@ -1,25 +1,23 @@
 -- A list taken or read one pair after the other: on the model, what one pair changes.
-use mathlib.Core.Path.{_≡_, refl, sym, ap, _∙_, subst}
-use mathlib.Core.Bool.{Bool, true, false, _&&_, _||_, not, cond}
-use mathlib.Core.List.{List, [], _∷_, _++_, map}
+use mathlib.Core.Path.{_≡_, refl, sym, ap, _∙_}
+use mathlib.Core.Bool.{Bool, true, false, cond}
+use mathlib.Core.List.{List, [], _∷_, map}
 use mathlib.Core.Option.{Option, some, none}
-use Prim.Native.Nat.{ℕ, zero, suc, _+_, _≤_, _<_}
+use Prim.Native.Nat.{ℕ, suc, _≤_}
 use native.Mathlib.Omega.{arith}
-use borrow.Author.Tests.{eq-eqb, ne-eqb, eqb-true, eqb-false}
-use lib.ListN.{length, getD, length-map}
+use borrow.Author.Tests.{eq-eqb, ne-eqb, eqb-false}
+use lib.ListN.{length-map}
 use lib.Dec.{eqb}
-use Rattle.lists.specs.Every.{Every, every-map}
-use Rattle.lists.specs.Count.{bit}
+use Rattle.lists.specs.Every.{Every}
 use Rattle.lists.specs.Blocks.{putAt}
-use Rattle.model.specs.Pairs.{Pair, among, repeats, samePair}
-use Rattle.model.specs.Model.{Model, Instance, Live, Place, gone, held, find, liveIn, lives, count, inSlot, keyed, named, present, isLive, allLive, fine, asRead, mark, listedIn, touch, listed, access}
+use Rattle.model.specs.Pairs.{Pair, among, samePair}
+use Rattle.model.specs.Model.{Model, Instance, Live, Place, gone, held, find, lives, count, inSlot, asRead, mark, listedIn, touch}
 use Rattle.store.specs.Store.{placeOf}
-use Rattle.refine.specs.Layout.{instOf}
 use Rattle.refine.specs.Good.{Good, hasKey, timesHeld, Sized, Bounded, InOrder}
-use Rattle.refine.specs.GoodLaws.{rising-touch, times-none}
+use Rattle.refine.specs.GoodLaws.{rising-touch}
 use Rattle.refine.specs.Tables.{split}
-use Rattle.refine.specs.Entries.{insts, found-name}
-use Rattle.refine.specs.Counting.{find-here, find-there, count-append, count-touch}
+use Rattle.refine.specs.Entries.{insts}
+use Rattle.refine.specs.Counting.{count-append, count-touch}
 
 -- the places that the list names are touched, and no instance's record
 abbrev pub touchedIn : Bool → List Pair → Instance → Instance

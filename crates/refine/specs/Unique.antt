@@ -1,18 +1,18 @@
 -- A key is live once: the sample under it is the only one.
-use mathlib.Core.Path.{_≡_, refl, sym, ap, _∙_}
+use mathlib.Core.Path.{_≡_, refl}
 use mathlib.Core.Bool.{Bool, true, false, cond}
 use mathlib.Core.List.{List, [], _∷_, _++_, map}
-use mathlib.Core.Option.{Option, some, none}
+use mathlib.Core.Option.{some, none}
 use Prim.Native.Nat.{ℕ, zero, suc, _+_, _≤_, _<_}
 use native.Mathlib.Omega.{arith}
-use borrow.Author.Tests.{eq-eqb, ne-eqb, eqb-true, eqb-false}
-use lib.ListN.{length, take}
+use borrow.Author.Tests.{eqb-false}
+use lib.ListN.{take}
 use lib.Dec.{eqb}
 use Rattle.lists.specs.Every.{Every, every-append, every-map}
 use Rattle.lists.specs.Count.{bit}
-use Rattle.model.specs.Model.{Model, Instance, Live, liveIn, lives, count, keyed}
-use Rattle.refine.specs.Layout.{Entry, entry, entriesFrom}
-use Rattle.refine.specs.Good.{Good, hasKey, reached}
+use Rattle.model.specs.Model.{Instance, Live, liveIn, count, keyed}
+use Rattle.refine.specs.Layout.{entry, entriesFrom}
+use Rattle.refine.specs.Good.{hasKey}
 use Rattle.refine.specs.Tables.{split}
 use Rattle.refine.specs.Found.{every-over, every-all}
 

@@ -1,37 +1,33 @@
 -- Reading and taking a list: what each instance gets as its last accessed total, and the whole of both calls on the store and the table.
-use mathlib.Core.Path.{_≡_, refl, sym, ap, _∙_, subst}
+use mathlib.Core.Path.{_≡_, refl, sym, ap, _∙_}
 use mathlib.Core.Bool.{Bool, true, false, _&&_, _||_, not, cond}
-use mathlib.Core.List.{List, [], _∷_, _++_, map}
+use mathlib.Core.List.{List, [], _∷_, map}
 use mathlib.Core.Option.{Option, some, none}
-use Prim.Native.Nat.{ℕ, zero, suc, _+_, _≤_, _<_, max}
+use Prim.Native.Nat.{ℕ, zero, suc, _≤_, _<_, max}
 use native.Mathlib.Nat.{not-suc-le-zero, le-of-suc-le-suc}
 use native.Mathlib.Omega.{arith}
 use borrow.Author.Tests.{eq-eqb, ne-eqb, eqb-true, eqb-false, lt-ltb, le-ltb, ltb-true, ltb-false}
-use lib.ListN.{length, getD, set, length-map, length-set}
-use lib.Seq.{getD-set-same, getD-set-other, ext-getD}
+use lib.ListN.{length, getD, length-map}
+use lib.Seq.{getD-set-other, ext-getD}
 use lib.Dec.{eqb, ltb}
-use Rattle.lists.specs.Count.{bit}
 use Rattle.lists.specs.Blocks.{putAt, put-set, get-put, length-put-in}
 use Rattle.sampleinfo.specs.Counts.{accessedAt}
-use Rattle.sampleinfo.specs.Lifecycle.{accessedOf}
 use Rattle.sampleinfo.specs.Samples.{emptySample, totalOf}
-use Rattle.sampleinfo.specs.declared.Sample.{Sample}
-use Rattle.model.specs.Pairs.{Pair, among, repeats, samePair}
-use Rattle.model.specs.Views.{greater, viewed}
-use Rattle.model.specs.Model.{Model, Instance, Live, find, liveIn, lives, count, keyed, allLive, isLive, fine, listedIn, shown, listed, touch, access}
-use Rattle.store.specs.Store as S
-use Rattle.store.specs.Store.{Inst, Store, placeOf, noInst, slotNamed, withMeta, withAccessed, accessedIn, withInst}
-use Rattle.refine.specs.Layout.{cellsOf, instOf, Entry, entry, entriesFrom, entriesOf, slotsOf, freeOf, keyOf, ownerOf, sampleOf, newestOf, storeOf, tableOf}
+use Rattle.model.specs.Pairs.{Pair, among, repeats}
+use Rattle.model.specs.Views.{greater}
+use Rattle.model.specs.Model.{Model, Instance, Live, find, liveIn, lives, count, keyed, allLive, isLive, fine, listedIn, shown, listed, access}
+use Rattle.store.specs.Store.{Inst, Store, placeOf, noInst, slotNamed, withMeta, withAccessed}
+use Rattle.refine.specs.Layout.{instOf, entriesFrom, slotsOf, sampleOf, storeOf, tableOf}
 use Rattle.refine.specs.Good.{Good, hasKey, timesHeld}
 use Rattle.refine.specs.Tables.{split}
 use Rattle.refine.specs.Entries.{insts, found-at, found-name}
-use Rattle.refine.specs.Counting.{find-here, find-there, livesOf}
+use Rattle.refine.specs.Counting.{livesOf}
 use Rattle.refine.specs.GoodLaws.{count-find}
-use Rattle.refine.specs.FitOf.{get-inst, nobody}
+use Rattle.refine.specs.FitOf.{nobody}
 use Rattle.refine.specs.Named.{insts-of, Known, key-once}
 use Rattle.refine.specs.Touch.{touchedIn, touchedBy}
 use Rattle.refine.specs.Take.{keyed-absent}
-use Rattle.refine.specs.Fold.{and-true, Names, names-of, known-of, store-taken-all, table-taken-all, store-read-all, table-read-all}
+use Rattle.refine.specs.Fold.{and-true, names-of, known-of, store-taken-all, table-taken-all, store-read-all, table-read-all}
 use Rattle.refine.specs.Lists.{slotsNamed, freedAll, clearedAll, markedAll, seenAt, viewedRows}
 
 -- ---- the greatest total shown, pair by pair

@@ -1,10 +1,10 @@
 -- A window of places moves on by one: what leaves it, what stays, and the tables over the slots then.
-use mathlib.Core.Path.{_≡_, refl, sym, ap, _∙_}
+use mathlib.Core.Path.{_≡_, refl, ap, _∙_}
 use mathlib.Core.List.{List, [], _∷_, _++_, map, append-assoc, append-nil}
 use mathlib.Core.Option.{Option, some, none}
-use Prim.Native.Nat.{ℕ, zero, suc, _+_, _≤_, _<_}
+use Prim.Native.Nat.{ℕ, zero, suc, _≤_}
 use native.Mathlib.Omega.{arith}
-use lib.ListN.{length, getD, set, drop, replicate}
+use lib.ListN.{set, replicate}
 use lib.Seq.{set-out}
 use Rattle.sampleinfo.specs.States.{handleOf}
 use Rattle.model.specs.Model.{Live, Place, gone, held, liveIn, push, pushedOut, window}

@@ -1,0 +1,20 @@
+use borrow.Author.Needs.{needs}
+use Rattle.dds_cache.specs.CallLaws.{add-bad, add-good}
+use Rattle.dds_cache.proofs.TopicCache.add_change.Statement.{statement}
+use Rattle.dds_cache.proofs.TopicCache.add_change.Tie as tie
+
+sequence-fits-requires : tie.Need-sequence-fits-requires
+sequence-fits-requires c κs = search needs
+
+add-change-internal-requires : tie.Need-add-change-internal-requires
+add-change-internal-requires c κs = search needs
+
+returns : tie.Need-returns
+returns c = λ m f d. add-good m _ _ _ _ f d _ (c .before .before .before .sequence-fits .ensures) (c .before .before .if1 .taken) _ _ (c .add-change-internal .ensures)
+
+returns-2 : tie.Need-returns-2
+returns-2 c = λ m f d. add-bad m _ _ _ _ f d _ (c .before .sequence-fits .ensures) (c .if1 .left)
+
+pub add-change-spec : {M : Type 1} → statement M
+add-change-spec =
+    tie.close (tie.spec sequence-fits-requires add-change-internal-requires returns returns-2)

@@ -1,0 +1,73 @@
+-- For a caller that prints an answer line by line: how long lines are, and one more line each turn.
+use mathlib.Core.Path.{_≡_, sym, ap, _∙_}
+use mathlib.Core.List.{List, [], _∷_, _++_, append-assoc, append-nil}
+use Prim.Native.Nat.{ℕ, _+_, _≤_}
+use native.Mathlib.Omega.{arith}
+use borrow.Author.Tests.{le-leb}
+use lib.ListN.{length, take, drop, length-append}
+use Rattle.text.specs.NumberLaws.{decimal-length, signed-length}
+use Rattle.sampleinfo.specs.States.{sampleBit, viewBit, instanceBit, kindOf, handleOf}
+use Rattle.sampleinfo.specs.declared.Info.{Info}
+use Rattle.model.specs.Pairs.{Pair}
+use Rattle.printing.specs.Printout.{lineOf, numberLine, pairLine, pairLines, infoLine, infoLines}
+use Rattle.printing.specs.Lines.{lined, lineEnd, Lined, Laid}
+use Rattle.printing.specs.LineLaws.{laid-long, laid-then}
+
+-- ---- how long
+
+pub number-line-length : (w : List ℕ) (n : ℕ) → length (numberLine w n) ≤ length w + 22
+unfolding lineOf
+number-line-length w n = simp length-append (omega (arith, decimal-length n))
+
+pub pair-line-length : (p : Pair) → length (pairLine p) ≤ 42
+unfolding lineOf
+pair-line-length p = simp length-append (omega (arith, decimal-length (p .key), decimal-length (p .name)))
+
+pub info-line-length : (i : Info) → length (infoLine i) ≤ 212
+unfolding lineOf
+info-line-length i =
+    simp length-append (omega (
+      arith,
+      decimal-length (handleOf (i .body)),
+      decimal-length (kindOf (i .body)),
+      decimal-length (sampleBit (i .«sample_state»)),
+      decimal-length (viewBit (i .«view_state»)),
+      decimal-length (instanceBit (i .«instance_state»)),
+      decimal-length (i .«generation_counts» .«disposed_generation_count»),
+      decimal-length (i .«generation_counts» .«no_writers_generation_count»),
+      decimal-length (i .«sample_rank»),
+      signed-length (i .«generation_rank»),
+      signed-length (i .«absolute_generation_rank»),
+    ))
+
+-- ---- a line that had room
+
+pub line-laid : (l : List ℕ) (at : ℕ) (s out : List ℕ) (r : ℕ) → Lined l at s out r → at + 256 ≤ length l → length s ≤ 256 → Laid l at s out r
+unfolding lined lineEnd
+line-laid l at s out r a h k =
+    let b : out ≡ take at l ++ s ++ drop (at + length s) l = a .bytes ∙ rw (le-leb (at + 256) (length l) h) in
+    record { fits = omega arith; bytes = b; place = a .place ∙ rw (le-leb (at + 256) (length l) h); long = ap length b ∙ laid-long l at s (omega arith) }
+
+-- ---- one more line
+
+pub pair-lines-more : (ps : List Pair) (p : Pair) → pairLines (ps ++ p ∷ []) ≡ pairLines ps ++ pairLine p
+unfolding pairLines
+pair-lines-more [] p = append-nil (pairLine p)
+pair-lines-more (q ∷ ps) p = ap (λ (x : List ℕ). pairLine q ++ x) (pair-lines-more ps p) ∙ sym (append-assoc (pairLine q) (pairLines ps) (pairLine p))
+
+pub info-lines-more : (is : List Info) (i : Info) → infoLines (is ++ i ∷ []) ≡ infoLines is ++ infoLine i
+unfolding infoLines
+info-lines-more [] i = append-nil (infoLine i)
+info-lines-more (j ∷ is) i = ap (λ (x : List ℕ). infoLine j ++ x) (info-lines-more is i) ∙ sym (append-assoc (infoLine j) (infoLines is) (infoLine i))
+
+-- a head line and the lines so far, and then one more
+module _ (l : List ℕ) (at : ℕ) (head mid out : List ℕ) (r q : ℕ) where
+  pub pairs-turn : (ps : List Pair) (p : Pair) → Laid l at (head ++ pairLines ps) mid r → Lined mid r (pairLine p) out q → r + 256 ≤ length l → Laid l at (head ++ pairLines (ps ++ p ∷ [])) out q
+  pairs-turn ps p a b h =
+      rw (pair-lines-more ps p, ← append-assoc head (pairLines ps) (pairLine p))
+      (laid-then l at (head ++ pairLines ps) mid r (pairLine p) out q a (line-laid mid r (pairLine p) out q b (omega (arith, a .long)) (omega (arith, pair-line-length p))))
+
+  pub infos-turn : (is : List Info) (i : Info) → Laid l at (head ++ infoLines is) mid r → Lined mid r (infoLine i) out q → r + 256 ≤ length l → Laid l at (head ++ infoLines (is ++ i ∷ [])) out q
+  infos-turn is i a b h =
+      rw (info-lines-more is i, ← append-assoc head (infoLines is) (infoLine i))
+      (laid-then l at (head ++ infoLines is) mid r (infoLine i) out q a (line-laid mid r (infoLine i) out q b (omega (arith, a .long)) (omega (arith, info-line-length i))))
