@@ -6,9 +6,6 @@ use Rattle.change.specs.Change.{fillCells}
 use Rattle.change.specs.ChangeLaws.{fill-start, fill-on, fill-end}
 use Rattle.change.proofs.clear_cells.Statement.{statement}
 use Rattle.change.proofs.clear_cells.Tie as tie
-use Rattle.change.proofs.clear_cells.Reads as reads
-use Rattle.change.proofs.clear_cells.Lts as lts
-use Rattle.index.proofs.put_cell.Reads as put-cell-reads
 
 abbrev Inv-loop : tie.InvT-loop
 Inv-loop ws₀ i₀ ws i = (ws ≡ fillCells ws₀ i) × (i ≤ 256)

@@ -6,11 +6,6 @@ use Rattle.change.specs.Change.{emptying}
 use Rattle.change.specs.ChangeLaws.{empty-start, empty-on, empty-end, product, product-fits}
 use Rattle.change.proofs.empty_cells.Statement.{statement}
 use Rattle.change.proofs.empty_cells.Tie as tie
-use Rattle.change.proofs.empty_cells.Reads as reads
-use Rattle.change.proofs.empty_cells.Lts as lts
-use Rattle.change.proofs.without.Reads as without-reads
-use Rattle.index.proofs.cell_at.Reads as cell-at-reads
-use Rattle.index.proofs.put_cell.Reads as put-cell-reads
 
 abbrev Inv-loop : tie.InvT-loop
 Inv-loop ws₀ depth row slot base j₀ ws j = (ws ≡ emptying ws₀ base slot j) × (j ≤ depth) × (depth ≤ 256) × (base ≤ 8192)

@@ -3,12 +3,6 @@ use borrow.Author.Needs.{needs}
 use Rattle.change.specs.ChangeLaws.{free-out, free-far, free-deep, free-done}
 use Rattle.change.proofs.free_slot.Statement.{statement}
 use Rattle.change.proofs.free_slot.Tie as tie
-use Rattle.change.proofs.free_slot.Reads as reads
-use Rattle.change.proofs.free_slot.Lts as lts
-use Rattle.change.proofs.empty_cells.Reads as empty-cells-reads
-use Rattle.change.proofs.newest_without.Reads as newest-without-reads
-use Rattle.index.proofs.put_slot.Reads as put-slot-reads
-use Rattle.slots.proofs.Free.give.Reads as give-reads
 
 returns : tie.Need-returns
 returns c = search (needs, free-out)

@@ -3,8 +3,6 @@ use borrow.Author.Needs.{needs}
 use borrow.Author.Tests.{eq-eqb, ne-eqb}
 use Rattle.change.proofs.newest_without.Statement.{statement}
 use Rattle.change.proofs.newest_without.Tie as tie
-use Rattle.change.proofs.newest_without.Reads as reads
-use Rattle.change.proofs.newest_without.Lts as lts
 
 returns : tie.Need-returns
 returns c = rw (eq-eqb _ _ (c .if1 .taken))

@@ -3,12 +3,6 @@ use borrow.Author.Needs.{needs}
 use Rattle.change.specs.ChangeLaws.{unknown, left-done}
 use Rattle.change.proofs.no_writers.Statement.{statement}
 use Rattle.change.proofs.no_writers.Tie as tie
-use Rattle.change.proofs.no_writers.Reads as reads
-use Rattle.change.proofs.no_writers.Lts as lts
-use Rattle.index.proofs.find.Reads as find-reads
-use Rattle.index.proofs.meta_at.Reads as meta-at-reads
-use Rattle.index.proofs.put_meta.Reads as put-meta-reads
-use Rattle.sampleinfo.proofs.no_writers.Reads as no-writers-reads
 
 find-requires : tie.Need-find-requires
 find-requires c κs = search needs

@@ -3,10 +3,6 @@ use borrow.Author.Needs.{needs}
 use Rattle.change.specs.ChangeLaws.{set-up-done}
 use Rattle.change.proofs.set_up.Statement.{statement}
 use Rattle.change.proofs.set_up.Tie as tie
-use Rattle.change.proofs.set_up.Reads as reads
-use Rattle.change.proofs.set_up.Lts as lts
-use Rattle.change.proofs.clear_cells.Reads as clear-cells-reads
-use Rattle.slots.proofs.Free.all.Reads as all-reads
 
 clear-cells-requires : tie.Need-clear-cells-requires
 clear-cells-requires c κs = search needs

@@ -3,8 +3,6 @@ use borrow.Author.Needs.{needs}
 use Rattle.change.specs.ChangeLaws.{is-empty, is-kept}
 use Rattle.change.proofs.without.Statement.{statement}
 use Rattle.change.proofs.without.Tie as tie
-use Rattle.change.proofs.without.Reads as reads
-use Rattle.change.proofs.without.Lts as lts
 
 returns : tie.Need-returns
 returns c = search (needs, is-empty)

@@ -5,10 +5,6 @@ use Prim.Native.Nat.{_-_, _≤_, min}
 use Rattle.index.specs.MemoryLaws.{Seeks, seek-start, seek-on, seek-hit, seek-end}
 use Rattle.index.proofs.find.Statement.{statement}
 use Rattle.index.proofs.find.Tie as tie
-use Rattle.index.proofs.find.Reads as reads
-use Rattle.index.proofs.find.Lts as lts
-use Rattle.index.proofs.name_at.Reads as name-at-reads
-use Rattle.index.proofs.rows_held.Reads as rows-held-reads
 
 abbrev Inv-loop : tie.InvT-loop
 Inv-loop ws held name rows i₀ i = Seeks ws held name i × (i ≤ rows) × (rows ≡ min held 32)

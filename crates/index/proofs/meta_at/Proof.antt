@@ -3,12 +3,6 @@ use borrow.Author.Needs.{needs}
 use Rattle.index.specs.WordLaws.{meta-past, meta-made}
 use Rattle.index.proofs.meta_at.Statement.{statement}
 use Rattle.index.proofs.meta_at.Tie as tie
-use Rattle.index.proofs.meta_at.Reads as reads
-use Rattle.index.proofs.meta_at.Lts as lts
-use Rattle.index.proofs.count_of.Reads as count-of-reads
-use Rattle.index.proofs.meta_word.Reads as meta-word-reads
-use Rattle.sampleinfo.proofs.InstanceMetaData.new.Reads as new-reads
-use Rattle.sampleinfo.proofs.InstanceState.of_bit.Reads as of-bit-reads
 
 new-requires : tie.Need-new-requires
 new-requires c κs = search needs

@@ -3,8 +3,6 @@ use borrow.Author.Needs.{needs}
 use Rattle.index.specs.WordLaws.{load-in, load-past}
 use Rattle.index.proofs.meta_word.Statement.{statement}
 use Rattle.index.proofs.meta_word.Tie as tie
-use Rattle.index.proofs.meta_word.Reads as reads
-use Rattle.index.proofs.meta_word.Lts as lts
 
 add-result : tie.Need-add-result
 add-result c = search needs

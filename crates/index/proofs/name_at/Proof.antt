@@ -3,8 +3,6 @@ use borrow.Author.Needs.{needs}
 use Rattle.index.specs.WordLaws.{load-in, load-past}
 use Rattle.index.proofs.name_at.Statement.{statement}
 use Rattle.index.proofs.name_at.Tie as tie
-use Rattle.index.proofs.name_at.Reads as reads
-use Rattle.index.proofs.name_at.Lts as lts
 
 add-result : tie.Need-add-result
 add-result c = search needs

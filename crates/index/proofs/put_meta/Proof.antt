@@ -3,10 +3,6 @@ use borrow.Author.Needs.{needs}
 use Rattle.index.specs.WordLaws.{put-meta-past, put-meta-done}
 use Rattle.index.proofs.put_meta.Statement.{statement}
 use Rattle.index.proofs.put_meta.Tie as tie
-use Rattle.index.proofs.put_meta.Reads as reads
-use Rattle.index.proofs.put_meta.Lts as lts
-use Rattle.index.proofs.put_meta_word.Reads as put-meta-word-reads
-use Rattle.sampleinfo.proofs.InstanceState.bit.Reads as bit-reads
 
 returns : tie.Need-returns
 returns c = search (needs, put-meta-past)

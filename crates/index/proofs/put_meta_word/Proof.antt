@@ -3,8 +3,6 @@ use borrow.Author.Needs.{needs}
 use Rattle.index.specs.WordLaws.{store-in, store-past}
 use Rattle.index.proofs.put_meta_word.Statement.{statement}
 use Rattle.index.proofs.put_meta_word.Tie as tie
-use Rattle.index.proofs.put_meta_word.Reads as reads
-use Rattle.index.proofs.put_meta_word.Lts as lts
 
 add-ws : tie.Need-add-ws
 add-ws c = search needs

@@ -3,8 +3,6 @@ use borrow.Author.Needs.{needs}
 use Rattle.index.specs.WordLaws.{store-in, store-past}
 use Rattle.index.proofs.put_name.Statement.{statement}
 use Rattle.index.proofs.put_name.Tie as tie
-use Rattle.index.proofs.put_name.Reads as reads
-use Rattle.index.proofs.put_name.Lts as lts
 
 add-ws : tie.Need-add-ws
 add-ws c = search needs

@@ -3,10 +3,6 @@ use borrow.Author.Needs.{needs}
 use Rattle.index.specs.Words.{putSlot}
 use Rattle.index.proofs.put_slot.Statement.{statement}
 use Rattle.index.proofs.put_slot.Tie as tie
-use Rattle.index.proofs.put_slot.Reads as reads
-use Rattle.index.proofs.put_slot.Lts as lts
-use Rattle.index.proofs.put_key.Reads as put-key-reads
-use Rattle.index.proofs.put_owner.Reads as put-owner-reads
 
 put-key-requires : tie.Need-put-key-requires
 put-key-requires c κs = search needs

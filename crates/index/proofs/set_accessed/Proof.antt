@@ -3,9 +3,6 @@ use borrow.Author.Needs.{needs}
 use Rattle.index.specs.WordLaws.{accessed-past}
 use Rattle.index.proofs.set_accessed.Statement.{statement}
 use Rattle.index.proofs.set_accessed.Tie as tie
-use Rattle.index.proofs.set_accessed.Reads as reads
-use Rattle.index.proofs.set_accessed.Lts as lts
-use Rattle.index.proofs.put_meta_word.Reads as put-meta-word-reads
 
 mul-put-meta-word : tie.Need-mul-put-meta-word
 mul-put-meta-word c = search needs

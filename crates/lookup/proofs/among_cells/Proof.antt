@@ -4,10 +4,6 @@ use Prim.Native.Nat.{_-_, _≤_}
 use Rattle.lookup.specs.LookupLaws.{Cells, cells-start, cells-hit, cells-on, cells-end, product, product-fits}
 use Rattle.lookup.proofs.among_cells.Statement.{statement}
 use Rattle.lookup.proofs.among_cells.Tie as tie
-use Rattle.lookup.proofs.among_cells.Reads as reads
-use Rattle.lookup.proofs.among_cells.Lts as lts
-use Rattle.index.proofs.cell_at.Reads as cell-at-reads
-use Rattle.lookup.proofs.holds.Reads as holds-reads
 
 abbrev Inv-loop : tie.InvT-loop
 Inv-loop ws depth row key base j₀ j = Cells ws depth row key j × (j ≤ depth) × (depth ≤ 256) × (base ≤ 8192)

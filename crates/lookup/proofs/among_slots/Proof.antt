@@ -4,9 +4,6 @@ use Prim.Native.Nat.{_-_, _≤_}
 use Rattle.lookup.specs.LookupLaws.{Slots, slots-start, slots-hit, slots-on, slots-end}
 use Rattle.lookup.proofs.among_slots.Statement.{statement}
 use Rattle.lookup.proofs.among_slots.Tie as tie
-use Rattle.lookup.proofs.among_slots.Reads as reads
-use Rattle.lookup.proofs.among_slots.Lts as lts
-use Rattle.lookup.proofs.is_its.Reads as is-its-reads
 
 abbrev Inv-loop : tie.InvT-loop
 Inv-loop free ws row key slot₀ slot = Slots (free .words) ws row key slot × (slot ≤ 256)

@@ -3,9 +3,6 @@ use borrow.Author.Needs.{needs}
 use Rattle.lookup.specs.LookupLaws.{beats-yes, beats-no}
 use Rattle.lookup.proofs.beats.Statement.{statement}
 use Rattle.lookup.proofs.beats.Tie as tie
-use Rattle.lookup.proofs.beats.Reads as reads
-use Rattle.lookup.proofs.beats.Lts as lts
-use Rattle.index.proofs.key_at.Reads as key-at-reads
 
 key-at-requires : tie.Need-key-at-requires
 key-at-requires c κs = search needs

@@ -4,9 +4,6 @@ use Prim.Native.Nat.{_≤_}
 use Rattle.lookup.specs.LookupLaws.{Great, great-start, great-on, great-end}
 use Rattle.lookup.proofs.greatest.Statement.{statement}
 use Rattle.lookup.proofs.greatest.Tie as tie
-use Rattle.lookup.proofs.greatest.Reads as reads
-use Rattle.lookup.proofs.greatest.Lts as lts
-use Rattle.lookup.proofs.later.Reads as later-reads
 
 abbrev Inv-loop : tie.InvT-loop
 Inv-loop free ws i₀ best₀ i best = Great (free .words) ws i best × (i ≤ 256)

@@ -3,9 +3,6 @@ use borrow.Author.Needs.{needs}
 use Rattle.lookup.specs.LookupLaws.{holds-yes, holds-no}
 use Rattle.lookup.proofs.holds.Statement.{statement}
 use Rattle.lookup.proofs.holds.Tie as tie
-use Rattle.lookup.proofs.holds.Reads as reads
-use Rattle.lookup.proofs.holds.Lts as lts
-use Rattle.index.proofs.key_at.Reads as key-at-reads
 
 key-at-requires : tie.Need-key-at-requires
 key-at-requires c κs = search needs

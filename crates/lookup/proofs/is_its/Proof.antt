@@ -3,11 +3,6 @@ use borrow.Author.Needs.{needs}
 use Rattle.lookup.specs.LookupLaws.{its-free, its-other, its-row}
 use Rattle.lookup.proofs.is_its.Statement.{statement}
 use Rattle.lookup.proofs.is_its.Tie as tie
-use Rattle.lookup.proofs.is_its.Reads as reads
-use Rattle.lookup.proofs.is_its.Lts as lts
-use Rattle.index.proofs.key_at.Reads as key-at-reads
-use Rattle.index.proofs.owner_at.Reads as owner-at-reads
-use Rattle.slots.proofs.Free.is_free.Reads as is-free-reads
 
 is-free-requires : tie.Need-is-free-requires
 is-free-requires c κs = search needs

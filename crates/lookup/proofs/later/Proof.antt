@@ -3,10 +3,6 @@ use borrow.Author.Needs.{needs}
 use Rattle.lookup.specs.LookupLaws.{later-free, later-best, later-slot}
 use Rattle.lookup.proofs.later.Statement.{statement}
 use Rattle.lookup.proofs.later.Tie as tie
-use Rattle.lookup.proofs.later.Reads as reads
-use Rattle.lookup.proofs.later.Lts as lts
-use Rattle.lookup.proofs.beats.Reads as beats-reads
-use Rattle.slots.proofs.Free.is_free.Reads as is-free-reads
 
 is-free-requires : tie.Need-is-free-requires
 is-free-requires c κs = search needs

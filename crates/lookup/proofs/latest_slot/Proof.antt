@@ -3,9 +3,6 @@ use borrow.Author.Needs.{needs}
 use Rattle.lookup.specs.LookupLaws.{latest-newest, latest-greatest}
 use Rattle.lookup.proofs.latest_slot.Statement.{statement}
 use Rattle.lookup.proofs.latest_slot.Tie as tie
-use Rattle.lookup.proofs.latest_slot.Reads as reads
-use Rattle.lookup.proofs.latest_slot.Lts as lts
-use Rattle.lookup.proofs.greatest.Reads as greatest-reads
 
 returns : tie.Need-returns
 returns c = search (needs, latest-newest)

@@ -3,8 +3,6 @@ use borrow.Author.Needs.{needs}
 use Rattle.lookup.specs.LookupLaws.{least-first, least-below, least-kept}
 use Rattle.lookup.proofs.least.Statement.{statement}
 use Rattle.lookup.proofs.least.Tie as tie
-use Rattle.lookup.proofs.least.Reads as reads
-use Rattle.lookup.proofs.least.Lts as lts
 
 enum-told : tie.Need-enum-told
 enum-told c = search needs

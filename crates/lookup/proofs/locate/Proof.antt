@@ -3,11 +3,6 @@ use borrow.Author.Needs.{needs}
 use Rattle.lookup.specs.LookupLaws.{locate-none, locate-slots, locate-far, locate-deep, locate-cells}
 use Rattle.lookup.proofs.locate.Statement.{statement}
 use Rattle.lookup.proofs.locate.Tie as tie
-use Rattle.lookup.proofs.locate.Reads as reads
-use Rattle.lookup.proofs.locate.Lts as lts
-use Rattle.index.proofs.find.Reads as find-reads
-use Rattle.lookup.proofs.among_cells.Reads as among-cells-reads
-use Rattle.lookup.proofs.among_slots.Reads as among-slots-reads
 
 find-requires : tie.Need-find-requires
 find-requires c κs = search needs

@@ -3,9 +3,6 @@ use borrow.Author.Needs.{needs}
 use Rattle.lookup.specs.LookupLaws.{nearer-yes, nearer-no}
 use Rattle.lookup.proofs.nearer.Statement.{statement}
 use Rattle.lookup.proofs.nearer.Tie as tie
-use Rattle.lookup.proofs.nearer.Reads as reads
-use Rattle.lookup.proofs.nearer.Lts as lts
-use Rattle.lookup.proofs.least.Reads as least-reads
 
 least-requires : tie.Need-least-requires
 least-requires c κs = search needs

@@ -5,11 +5,6 @@ use Prim.Native.Nat.{_≤_, min}
 use Rattle.lookup.specs.LookupLaws.{Nears, near-start, near-on, near-end}
 use Rattle.lookup.proofs.next_key.Statement.{statement}
 use Rattle.lookup.proofs.next_key.Tie as tie
-use Rattle.lookup.proofs.next_key.Reads as reads
-use Rattle.lookup.proofs.next_key.Lts as lts
-use Rattle.index.proofs.name_at.Reads as name-at-reads
-use Rattle.index.proofs.rows_held.Reads as rows-held-reads
-use Rattle.lookup.proofs.nearer.Reads as nearer-reads
 
 abbrev Inv-loop : tie.InvT-loop
 Inv-loop ws held name rows i₀ best₀ i best = Nears ws held name i best × (i ≤ rows) × (rows ≡ min held 32)

@@ -3,12 +3,6 @@ use borrow.Author.Needs.{needs}
 use Rattle.plan.specs.PlaceLaws.{commit-done}
 use Rattle.plan.proofs.commit.Statement.{statement}
 use Rattle.plan.proofs.commit.Tie as tie
-use Rattle.plan.proofs.commit.Reads as reads
-use Rattle.plan.proofs.commit.Lts as lts
-use Rattle.index.proofs.put_meta.Reads as put-meta-reads
-use Rattle.index.proofs.put_name.Reads as put-name-reads
-use Rattle.index.proofs.put_slot.Reads as put-slot-reads
-use Rattle.plan.proofs.move_on.Reads as move-on-reads
 
 put-name-requires : tie.Need-put-name-requires
 put-name-requires c κs = search needs

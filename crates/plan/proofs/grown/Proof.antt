@@ -3,8 +3,6 @@ use borrow.Author.Needs.{needs}
 use borrow.Author.Tests.{lt-ltb, le-ltb}
 use Rattle.plan.proofs.grown.Statement.{statement}
 use Rattle.plan.proofs.grown.Tie as tie
-use Rattle.plan.proofs.grown.Reads as reads
-use Rattle.plan.proofs.grown.Lts as lts
 
 returns : tie.Need-returns
 returns c = rw (lt-ltb _ _ (c .if1 .taken))

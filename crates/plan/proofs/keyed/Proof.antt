@@ -3,14 +3,6 @@ use borrow.Author.Needs.{needs}
 use Rattle.plan.specs.KeyedLaws.{no-room, key-seven, key-place}
 use Rattle.plan.proofs.keyed.Statement.{statement}
 use Rattle.plan.proofs.keyed.Tie as tie
-use Rattle.plan.proofs.keyed.Reads as reads
-use Rattle.plan.proofs.keyed.Lts as lts
-use Rattle.index.proofs.find.Reads as find-reads
-use Rattle.plan.proofs.no_room.Reads as no-room-reads
-use Rattle.plan.proofs.old_meta.Reads as old-meta-reads
-use Rattle.plan.proofs.place.Reads as place-reads
-use Rattle.plan.proofs.refused.Reads as refused-reads
-use Rattle.sampleinfo.proofs.lifecycle.Reads as lifecycle-reads
 
 find-requires : tie.Need-find-requires
 find-requires c κs = search needs

@@ -6,10 +6,6 @@ use Rattle.plan.specs.Plan.{shifting}
 use Rattle.plan.specs.WindowLaws.{move-none, move-last, shift-on, shift-start, product, product-fits}
 use Rattle.plan.proofs.move_on.Statement.{statement}
 use Rattle.plan.proofs.move_on.Tie as tie
-use Rattle.plan.proofs.move_on.Reads as reads
-use Rattle.plan.proofs.move_on.Lts as lts
-use Rattle.index.proofs.cell_at.Reads as cell-at-reads
-use Rattle.index.proofs.put_cell.Reads as put-cell-reads
 
 abbrev Inv-loop : tie.InvT-loop
 Inv-loop ws₀ depth row slot base last j₀ ws j = (ws ≡ shifting ws₀ base j) × (j ≤ last) × (last ≤ 255) × (base ≤ 8192)

@@ -3,8 +3,6 @@ use borrow.Author.Needs.{needs}
 use Rattle.plan.specs.KeyedLaws.{full-yes, full-no}
 use Rattle.plan.proofs.no_room.Statement.{statement}
 use Rattle.plan.proofs.no_room.Tie as tie
-use Rattle.plan.proofs.no_room.Reads as reads
-use Rattle.plan.proofs.no_room.Lts as lts
 
 returns : tie.Need-returns
 returns c = search (needs, full-yes)

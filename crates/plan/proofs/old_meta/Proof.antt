@@ -3,10 +3,6 @@ use borrow.Author.Needs.{needs}
 use Rattle.plan.specs.KeyedLaws.{old-held, old-new}
 use Rattle.plan.proofs.old_meta.Statement.{statement}
 use Rattle.plan.proofs.old_meta.Tie as tie
-use Rattle.plan.proofs.old_meta.Reads as reads
-use Rattle.plan.proofs.old_meta.Lts as lts
-use Rattle.index.proofs.meta_at.Reads as meta-at-reads
-use Rattle.sampleinfo.proofs.InstanceMetaData.new.Reads as new-reads
 
 meta-at-requires : tie.Need-meta-at-requires
 meta-at-requires c κs = search needs

@@ -3,9 +3,6 @@ use borrow.Author.Needs.{needs}
 use Rattle.plan.specs.WindowLaws.{oldest-none, oldest-some, product-fits}
 use Rattle.plan.proofs.oldest.Statement.{statement}
 use Rattle.plan.proofs.oldest.Tie as tie
-use Rattle.plan.proofs.oldest.Reads as reads
-use Rattle.plan.proofs.oldest.Lts as lts
-use Rattle.index.proofs.cell_at.Reads as cell-at-reads
 
 returns : tie.Need-returns
 returns c = search (needs, oldest-none)

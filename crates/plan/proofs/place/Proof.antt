@@ -3,16 +3,6 @@ use borrow.Author.Needs.{needs}
 use Rattle.plan.specs.PlaceLaws.{place-far, place-deep, place-full, place-done}
 use Rattle.plan.proofs.place.Statement.{statement}
 use Rattle.plan.proofs.place.Tie as tie
-use Rattle.plan.proofs.place.Reads as reads
-use Rattle.plan.proofs.place.Lts as lts
-use Rattle.plan.proofs.commit.Reads as commit-reads
-use Rattle.plan.proofs.grown.Reads as grown-reads
-use Rattle.plan.proofs.oldest.Reads as oldest-reads
-use Rattle.plan.proofs.refused.Reads as refused-reads
-use Rattle.slots.proofs.Free.count.Reads as count-reads
-use Rattle.slots.proofs.Free.give.Reads as give-reads
-use Rattle.slots.proofs.Free.lowest.Reads as lowest-reads
-use Rattle.slots.proofs.Free.take.Reads as take-reads
 
 refused-requires : tie.Need-refused-requires
 refused-requires c κs = search needs

@@ -3,11 +3,6 @@ use borrow.Author.Needs.{needs}
 use Rattle.plan.specs.KeyedLaws.{add-six, add-key}
 use Rattle.plan.proofs.plan.Statement.{statement}
 use Rattle.plan.proofs.plan.Tie as tie
-use Rattle.plan.proofs.plan.Reads as reads
-use Rattle.plan.proofs.plan.Lts as lts
-use Rattle.keys.proofs.Last.next.Reads as next-reads
-use Rattle.plan.proofs.keyed.Reads as keyed-reads
-use Rattle.plan.proofs.refused.Reads as refused-reads
 
 next-requires : tie.Need-next-requires
 next-requires c κs = search needs

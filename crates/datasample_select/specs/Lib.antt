@@ -1,0 +1,4 @@
+pub mod Choose
+pub mod SeenLaws
+pub mod Slots
+pub mod ChooseLaws

@@ -1,0 +1,6 @@
+pub mod Choice
+pub mod ChoiceLaws
+pub mod Ordered
+pub mod OrderedLaws
+pub mod Told
+pub mod ToldLaws
