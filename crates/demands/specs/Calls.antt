@@ -2,7 +2,7 @@
 use mathlib.Core.Path.{_≡_, refl, sym, ap, _∙_}
 use mathlib.Core.Bool.{Bool, true, false, cond}
 use mathlib.Core.List.{List}
-use Prim.Native.Nat.{ℕ}
+use Prim.Native.Nat.{ℕ, _/_}
 use lib.ListN.{length}
 use Rattle.sampleinfo.specs.declared.Sample.{Sample}
 use Rattle.model.specs.Model as M
@@ -16,6 +16,11 @@ use Rattle.datasample_cache.specs.Others.{replyAs, nextAs, SetsUp, Dies}
 use Rattle.datasample_cache.specs.declared.Reply.{Reply}
 use Rattle.datasample_cache.specs.declared.AddOutcome.{AddOutcome}
 use Rattle.datasample_cache.specs.declared.SetUpOutcome.{SetUpOutcome}
+use Rattle.readcondition.specs.declared.ReadCondition.{ReadCondition}
+use Rattle.select.specs.Choice.{scopeOf}
+use Rattle.select.specs.Told.{answerOf, Told}
+use Rattle.select.specs.declared.Within.{Within}
+use Rattle.select.specs.declared.Chosen.{Chosen}
 use Rattle.demands.specs.Runs.{Memory, Meets}
 
 module _ (h : Cache) (ws after : List ℕ) (t then : List Sample) where
@@ -42,3 +47,10 @@ module _ (h : Cache) (ws after : List ℕ) (t then : List Sample) where
           → (replyAs (r .answer) ≡ cond b (record { answer = M.ok; then = fresh (keepOf u) (u .instances) }) (M.refuse m 2) .answer) × Lies (cond b (record { answer = M.ok; then = fresh (keepOf u) (u .instances) }) (M.refuse m 2) .then) (r .head) after then
       go true w = let x = f .accepted (table-long m h ws t l) w in (ap replyAs (x .0), x .1)
       go false w = let x = f .out-of-bounds (table-long m h ws t l) w in (rw (x .0), rw (x .0, x .1, x .2) l)
+
+  -- choosing changes nothing but the lent buffer, off which the answer is read
+  pub by-choose : (w : Within) (c : ReadCondition) (r : Chosen) (was out : List ℕ)
+      → ((m : Model) → Good m → Lies m h ws t → Told (step m (M.look (scopeOf w) c (length was / 2)) .answer) r was out)
+      → Meets (M.look (scopeOf w) c (length was / 2)) before (answerOf r out) before
+  unfolding step
+  by-choose w c r was out f m g l = (f m g l .answer, l)

@@ -1,0 +1,20 @@
+-- Nothing was seen, or the word is stored.
+use borrow.Author.Needs.{needs}
+use Rattle.access.specs.AccessLaws.{view-none, view-some}
+use Rattle.access.proofs.view_row.Statement.{statement}
+use Rattle.access.proofs.view_row.Tie as tie
+use Rattle.access.proofs.view_row.Reads as reads
+use Rattle.access.proofs.view_row.Lts as lts
+use Rattle.index.proofs.set_accessed.Reads as set-accessed-reads
+
+set-accessed-requires : tie.Need-set-accessed-requires
+set-accessed-requires c κs = search needs
+
+returns : tie.Need-returns
+returns c = search (needs, view-none, view-some)
+
+returns-2 : tie.Need-returns-2
+returns-2 c = search (needs, view-none, view-some)
+
+pub view-row-spec : {M : Type 1} → statement M
+view-row-spec = tie.close (tie.spec set-accessed-requires returns returns-2)

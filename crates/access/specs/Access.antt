@@ -1,0 +1,97 @@
+-- Reading and taking a list, on the store and on the words.
+use mathlib.Core.Path.{_≡_}
+use mathlib.Core.Bool.{Bool, _&&_, cond}
+use mathlib.Core.List.{List, [], _∷_, _++_}
+use Prim.Native.Nat.{ℕ, zero, suc, _+_, _-_, _*_}
+use lib.ListN.{length, getD, set, drop}
+use lib.Dec.{ltb, eqb}
+use Rattle.sampleinfo.specs.Counts as counts
+use Rattle.sampleinfo.specs.Counts.{accessedAt}
+use Rattle.sampleinfo.specs.Lifecycle.{countsOf}
+use Rattle.sampleinfo.specs.Samples.{emptySample, totalOf}
+use Rattle.sampleinfo.specs.declared.NotAliveGenerationCounts.{NotAliveGenerationCounts}
+use Rattle.sampleinfo.specs.declared.Sample.{Sample}
+use Rattle.sampleinfo.specs.declared.Info.{Info}
+use Rattle.model.specs.Pairs.{Pair, repeats}
+use Rattle.pairs.specs.Flat.{pairsOf, wholePairs}
+use Rattle.store.specs.Store.{Store}
+use Rattle.index.specs.Words.{metasIn, ownersIn, metaAt, putMetaWord}
+use Rattle.change.specs.Change.{freedAt}
+use Rattle.refine.specs.Lists.{slotsNamed, allSlots, viewedRows}
+use Rattle.infos.specs.Infos.{infoFrom}
+
+-- the slot at a place, 256 past the last
+abbrev pub slotAt : List ℕ → ℕ → ℕ
+slotAt slots p = cond (ltb p 256) (getD slots p 0) 256
+
+-- the n places from p on
+unfoldable pub run : ℕ → ℕ → List ℕ → List ℕ
+run zero p slots = []
+run (suc n) p slots = slotAt slots p ∷ run n (p + 1) slots
+
+-- ---- what is refused
+
+-- the slots that the pairs name, first of all places
+abbrev pub namedFirst : Store → List Pair → List ℕ → List ℕ
+namedFirst s ps slots = slotsNamed s ps ++ drop (length ps) slots
+
+pub record Found (s : Store) (ps : List Pair) (r : Bool) (slots after : List ℕ) : Type 0 where
+  pub all : r ≡ allSlots (slotsNamed s ps)
+  pub names : after ≡ namedFirst s ps slots
+
+-- 1: "key list not of whole pairs"; 8: "key list names a pair not live, or a pair twice"; 9: "lent result buffer too short for the whole answer".
+-- No more than 256 pairs are live
+unfoldable pub listRefusal : Store → List ℕ → ℕ → ℕ
+unfolding pairsOf wholePairs repeats allSlots
+listRefusal s list room =
+    cond (wholePairs list)
+    (cond (ltb 256 (length (pairsOf list))) 8
+    (cond (repeats (pairsOf list)) 8
+    (cond (allSlots (slotsNamed s (pairsOf list)))
+    (cond (ltb room (length (pairsOf list))) 9 0) 8))) 1
+
+-- a list that is refused for its form alone names no slot
+unfoldable pub slotsAfter : Store → List ℕ → List ℕ → List ℕ
+unfolding pairsOf wholePairs repeats
+slotsAfter s list slots =
+    cond (wholePairs list) (cond (ltb 256 (length (pairsOf list))) slots (cond (repeats (pairsOf list)) slots (namedFirst s (pairsOf list) slots))) slots
+
+pub record Refuses (s : Store) (list : List ℕ) (room r : ℕ) (slots after : List ℕ) : Type 0 where
+  pub number : r ≡ listRefusal s list room
+  pub names : after ≡ slotsAfter s list slots
+
+-- ---- what is shown
+
+unfoldable pub lastCounts : List ℕ → List ℕ → ℕ → NotAliveGenerationCounts
+lastCounts ws slots n = cond (eqb n 0) counts.zero (countsOf (metaAt (metasIn ws) (getD (ownersIn ws) (slotAt slots (n - 1)) 0)))
+
+-- "the greatest total that this list showed for it"
+unfoldable pub noted : List ℕ → ℕ → ℕ → List ℕ
+noted seen row a = cond (ltb row 32) (cond (ltb (getD seen row 0) a) (set seen row a) seen) seen
+
+-- the slots one after the other
+unfoldable pub notedAll : List ℕ → List Sample → List ℕ → List ℕ → List ℕ
+unfolding noted
+notedAll ws t seen [] = seen
+notedAll ws t seen (k ∷ ks) = notedAll ws t (noted seen (getD (ownersIn ws) k 0) (accessedAt (totalOf (getD t k emptySample)))) ks
+
+unfoldable pub infosBy : List ℕ → List Sample → NotAliveGenerationCounts → NotAliveGenerationCounts → List ℕ → List Info
+infosBy ws t mrs mrsic [] = []
+infosBy ws t mrs mrsic (k ∷ ks) = infoFrom (getD t k emptySample) (metaAt (metasIn ws) (getD (ownersIn ws) k 0)) (length ks) mrs mrsic ∷ infosBy ws t mrs mrsic ks
+
+-- ---- what is left
+
+-- each slot freed with its owner, where that is held
+unfoldable pub freedEach : Store → List ℕ → Store
+freedEach s [] = s
+freedEach s (k ∷ ks) = freedEach (freedAt s (getD (s .owners) k 0) k) ks
+
+abbrev pub viewedWord : List ℕ → ℕ → ℕ → List ℕ
+viewedWord ws row a = cond (eqb a 0) ws (putMetaWord ws (4 * row + 3) a)
+
+-- "Afterwards each instance in the list gets as last accessed the greatest total that this list showed for it"
+abbrev pub viewedBy : List ℕ → Store → Store
+viewedBy seen s = viewedRows (length (s .insts)) (λ r. getD seen r 0) s
+
+abbrev pub settled : Store → Bool → List ℕ → List ℕ → Store
+settled s take ks seen = viewedBy seen (cond take (freedEach s ks) s)

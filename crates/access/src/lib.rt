@@ -1,0 +1,188 @@
+// Reading and taking a list on numbers: what is refused, which slots the list names, what is shown of each, and what is left in the index.
+ghost use mathlib.Core.Path.{_≡_};
+ghost use mathlib.Core.Bool.{_&&_, cond};
+ghost use Prim.Native.Nat.{_+_, _*_, _/_, _<_, _≤_};
+ghost use lib.Dec.{ltb, eqb};
+ghost use lib.ListN.{length, getD, drop};
+ghost use Rattle.sampleinfo.specs.Counts.{accessedAt};
+ghost use Rattle.sampleinfo.specs.Samples.{totalOf};
+ghost use Rattle.pairs.specs.Flat.{pairsOf};
+ghost use Rattle.store.specs.Store.{Store};
+ghost use Rattle.index.specs.Words.{metasIn, ownersIn, metaAt};
+ghost use Rattle.index.specs.Memory.{Tied, Held};
+ghost use Rattle.infos.specs.Infos.{infoFrom};
+ghost use Rattle.infos.specs.Words.{putInfo};
+ghost use Rattle.access.specs.Access.{slotAt, run, Refuses, Found, noted, lastCounts, freedEach, viewedWord, viewedBy, settled};
+use index::Cache;
+use sampleinfo::NotAliveGenerationCounts;
+use sampleinfo::Sample;
+
+// ---- what is refused
+
+// One more slot: all of them are slots so far.
+fn still(ok: bool, slot: usize) -> bool
+    ensures { λ r. ⌜ r ≡ ok && ltb slot 256 ⌝ }
+{
+    if ok {
+        return slot < Cache::SLOTS;
+    }
+    false
+}
+
+// The slot of each pair goes to its place (there are 256 places, as the type says), 256 where the pair is not live. The answer is whether all are live.
+fn find_slots(h: Cache, ws: &[u64; 928], list: &[u64], n: usize, slots: &mut [u64; 256]) -> bool
+    requires { do ⌜ (n ≡ (← ⟦list.len()⟧) / 2) × (n ≤ 256) ⌝ }
+    ensures { λ r. ⌜ ((s : Store) → length (now (slots .entry)) ≡ 256 → Tied s h (now (ws .entry)) → Found s (pairsOf (now (list .entry))) r (now (slots .entry)) (now (slots .exit))) ⌝ }
+{
+    let mut ok = true;
+    let mut i = 0;
+    while i < n {
+        let slot = lookup::locate(h, ws, list[2 * i], list[2 * i + 1]);
+        slots[i] = slot as u64;
+        ok = still(ok, slot);
+        i += 1;
+    }
+    ok
+}
+
+// "Lists: 8, 9", after 1; 0 where the list is accepted, and then its slots stand first in `slots`. The room is in infos.
+pub fn refusal(h: Cache, ws: &[u64; 928], list: &[u64], room: usize, slots: &mut [u64; 256]) -> u64
+    ensures { λ r. ⌜ ((s : Store) → length (now (slots .entry)) ≡ 256 → Tied s h (now (ws .entry)) → Refuses s (now (list .entry)) room r (now (slots .entry)) (now (slots .exit))) ⌝ }
+{
+    if !pairs::whole(list) {
+        return 1;
+    }
+    let n = list.len() / 2;
+    if Cache::SLOTS < n {
+        return 8;
+    }
+    if pairs::first_repeat(list) < n {
+        return 8;
+    }
+    if !find_slots(h, ws, list, n, slots) {
+        return 8;
+    }
+    if room < n {
+        return 9;
+    }
+    0
+}
+
+// ---- what is shown
+
+// The slot at a place of the list, 256 past the end.
+pub fn slot_at(slots: &[u64; 256], p: usize) -> usize
+    ensures { λ r. ⌜ r ≡ slotAt (now (slots .entry)) p ⌝ }
+{
+    if p < Cache::SLOTS {
+        return slots[p] as usize;
+    }
+    256
+}
+
+// The counts of the instance of the list's last pair.
+pub fn last_counts(ws: &[u64; 928], slots: &[u64; 256], n: usize) -> NotAliveGenerationCounts
+    ensures { λ r. ⌜ r ≡ lastCounts (now (ws .entry)) (now (slots .entry)) n ⌝ }
+{
+    if n == 0 {
+        return NotAliveGenerationCounts::zero();
+    }
+    let row = index::owner_at(ws, slot_at(slots, n - 1)) as usize;
+    let imd = index::meta_at(ws, row);
+    imd.latest_generation_available
+}
+
+// What was accessed of a row: the greatest so far.
+fn note(seen: &mut [u64; 32], row: usize, accessed: u64)
+    ensures { λ _. ⌜ now (seen .exit) ≡ noted (now (seen .entry)) row accessed ⌝ }
+{
+    if row < Cache::ROWS {
+        if seen[row] < accessed {
+            seen[row] = accessed;
+        }
+    }
+}
+
+// The info of a slot's sample goes to place p; what the list showed of its instance is noted.
+pub fn show(
+    ws: &[u64; 928],
+    slot: usize,
+    s: Sample,
+    p: usize,
+    follow: usize,
+    mrs: NotAliveGenerationCounts,
+    mrsic: NotAliveGenerationCounts,
+    out: &mut [u64],
+    seen: &mut [u64; 32],
+)
+    ensures { λ _. ⌜ now (out .exit) ≡ putInfo (now (out .entry)) p (infoFrom s (metaAt (metasIn (now (ws .entry))) (getD (ownersIn (now (ws .entry))) slot 0)) follow mrs mrsic) ⌝ }
+    ensures { λ _. ⌜ now (seen .exit) ≡ noted (now (seen .entry)) (getD (ownersIn (now (ws .entry))) slot 0) (accessedAt (totalOf s)) ⌝ }
+{
+    let row = index::owner_at(ws, slot) as usize;
+    let imd = index::meta_at(ws, row);
+    let counts = s.generation_counts;
+    infos::put_info(
+        out,
+        p,
+        infos::make_sample_info(s, imd, follow as u64, mrs, mrsic),
+    );
+    note(seen, row, counts.accessed());
+}
+
+// ---- what is left
+
+// The slots become free, one after the other.
+fn free_all(h: Cache, ws: &mut [u64; 928], slots: &[u64; 256], n: usize) -> Cache
+    ensures { λ r. ⌜ ((s : Store) → Tied s h (now (ws .entry)) → Tied (freedEach s (run n 0 (now (slots .entry)))) r (now (ws .exit))) ⌝ }
+{
+    let mut head = h;
+    let mut p = 0;
+    while p < n {
+        let slot = slot_at(slots, p);
+        let row = index::owner_at(ws, slot) as usize;
+        head = change::free_slot(head, ws, row, slot);
+        p += 1;
+    }
+    head
+}
+
+// An instance that the list did not show keeps what it had.
+fn view_row(ws: &mut [u64; 928], row: usize, accessed: u64)
+    ensures { λ _. ⌜ now (ws .exit) ≡ viewedWord (now (ws .entry)) row accessed ⌝ }
+{
+    if accessed != 0 {
+        index::set_accessed(ws, row, accessed);
+    }
+}
+
+// mark_instances_viewed: each instance gets what was seen of it.
+fn view_rows(ws: &mut [u64; 928], held: usize, seen: &[u64; 32])
+    ensures { λ _. ⌜ ((s : Store) → Held s held (now (ws .entry)) → Held (viewedBy (now (seen .entry)) s) held (now (ws .exit))) ⌝ }
+{
+    let rows = index::rows_held(held);
+    let mut row = 0;
+    while row < rows {
+        view_row(ws, row, seen[row]);
+        row += 1;
+    }
+}
+
+// What the call leaves in the header and the index, once its infos are made.
+pub fn settle(
+    h: Cache,
+    ws: &mut [u64; 928],
+    slots: &[u64; 256],
+    n: usize,
+    take: bool,
+    seen: &[u64; 32],
+) -> Cache
+    ensures { λ r. ⌜ ((s : Store) → Tied s h (now (ws .entry)) → Tied (settled s take (run n 0 (now (slots .entry))) (now (seen .entry))) r (now (ws .exit))) ⌝ }
+{
+    if take {
+        let head = free_all(h, ws, slots, n);
+        view_rows(ws, head.held, seen);
+        return head;
+    }
+    view_rows(ws, h.held, seen);
+    h
+}

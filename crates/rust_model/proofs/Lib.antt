@@ -1,0 +1,14 @@
+pub mod MapLaws
+pub mod Alike
+pub mod Log
+pub mod Evict
+pub mod Adds
+pub mod Fold
+pub mod Chosen
+pub mod Looks
+pub mod Touch
+pub mod Latest
+pub mod Viewed
+pub mod Accesses
+pub mod Equal
+pub mod Topics
