@@ -48,6 +48,6 @@ choose-done h ws seen l t c w r was out told e long m g lies =
     let here : Told (selecting c (hitsFrom 256 0 (storeOf m) t c w) (length was / 2)) r was out = told (storeOf m) t (tied m h ws t g lies) q in
     subst (λ (a : Answer). Told a r was out) (ap (λ (x : List Sample). selecting c (hitsFrom 256 0 (storeOf m) x c w) (length was / 2)) (lies .table) ∙ selecting-is m g c w (length was / 2)) here
 
-pub choose-no-table : (h : Cache) (ws : List ℕ) (t : List Sample) (c : ReadCondition) (w : Option ℕ) (r : Chosen) (was : List ℕ)
-    → (length t ≡ 256 → ⊥) → (m : Model) → Good m → Lies m h ws t → Told (step m (look w c (length was / 2)) .answer) r was was
-choose-no-table h ws t c w r was n m g lies = absurd (n (table-long m h ws t lies))
+pub choose-no-table : (h : Cache) (ws : List ℕ) (t : List Sample) (c : ReadCondition) (w : Option ℕ) (room : ℕ) (r : Chosen) (was : List ℕ)
+    → (length t ≡ 256 → ⊥) → (m : Model) → Good m → Lies m h ws t → Told (step m (look w c room) .answer) r was was
+choose-no-table h ws t c w room r was n m g lies = absurd (n (table-long m h ws t lies))
