@@ -105,7 +105,7 @@ class Crate:
             e = close(m, x.end() - 1)
             f.params = [tuple(y.strip() for y in p.split(":", 1)) if ":" in p else (p.split()[-1].lstrip("&"), ("&mut " if "mut" in p else "&") + "Self" if "&" in p else "Self") for p in parts(m[x.end():e-1])]
             f.sig = (x.start(), e)
-            r = re.compile(r"\s*->\s*((?:[^\s{;]|\s(?!\s*(?:requires|ensures|ghost|where)\b)(?!\s*\{))*)").match(m, e)
+            r = re.compile(r"\s*->\s*((?:\[[^\]]*\]|[^\s{;]|\s(?!\s*(?:requires|ensures|ghost|where)\b)(?!\s*\{))*)").match(m, e)
             f.res = r.group(1).strip() if r else "()"
             if r: e = r.end()
             f.clauses = []
@@ -267,7 +267,11 @@ class World:
             for r in w.records:
                 arr = f'[u{r["w"]}; {r["n"]}]'; n = r["name"]
                 if r["crate"] is c: s = re.sub(rf"\b(?:(?:crate|self|super)::(?:\w+::)*)?{n}\b", arr, s)
-                else: s = re.sub(rf"\b{r['crate'].name}::(?:\w+::)*{n}\b", arr, s)
+                else:
+                    used = rf"^use {r['crate'].name}::(?:\w+::)*{n};\n"       # by its bare name, where a `use` line brings it in
+                    bare = re.search(used, s, re.M); s = re.sub(used, "", s, flags=re.M)
+                    s = re.sub(rf"\b{r['crate'].name}::(?:\w+::)*{n}\b", arr, s)
+                    if bare: s = re.sub(rf"(?<![\w:]){n}\b", arr, s)
             out[file] = ("" if not re.search(r"\b(?:requires|ensures)\b", s) else "ghost use Prim.Native.Nat.{_<_};\n") + s
         return out
 
