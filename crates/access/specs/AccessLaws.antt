@@ -1,18 +1,17 @@
 -- Reading and taking a list, as the code meets it.
 use mathlib.Core.Path.{_≡_, refl, sym, ap, _∙_}
 use mathlib.Core.Bool.{Bool, true, false, _&&_, not, cond}
-use mathlib.Core.List.{List, [], _∷_, _++_, map}
+use mathlib.Core.List.{List, [], _∷_, _++_}
 use Prim.Native.Nat.{ℕ, zero, suc, _+_, _-_, _*_, _/_, _≤_, _<_, min}
 use native.Mathlib.Nat.{le-of-suc-le-suc, not-suc-le-zero, sub-zero}
 use native.Mathlib.Numerals.{add-one}
 use native.Mathlib.Omega.{arith}
-use borrow.Author.Tests.{lt-ltb, le-ltb, eq-eqb, ne-eqb, not-true, not-false}
+use borrow.Author.Tests.{lt-ltb, le-ltb, ne-eqb, not-true, not-false}
 use lib.ListN.{length, getD, set, take, drop, length-map}
 use lib.Seq.{drop-cons, take-all}
 use lib.Dec.{ltb, eqb}
 use Rattle.sampleinfo.specs.Counts as counts
 use Rattle.sampleinfo.specs.Counts.{accessedAt}
-use Rattle.sampleinfo.specs.Lifecycle.{countsOf}
 use Rattle.sampleinfo.specs.Samples.{totalOf}
 use Rattle.sampleinfo.specs.declared.NotAliveGenerationCounts.{NotAliveGenerationCounts}
 use Rattle.sampleinfo.specs.declared.InstanceMetaData.{InstanceMetaData}
@@ -26,7 +25,7 @@ use Rattle.pairs.specs.RepeatLaws.{repeat-less, less-repeat}
 use Rattle.store.specs.Store.{Store, slotNamed, accessedIn}
 use Rattle.store.specs.Fit.{Fit}
 use Rattle.index.specs.Words.{metasIn, ownersIn, metaAt, putMetaWord}
-use Rattle.index.specs.Memory.{View, shown, headOf, indexOf, Tied, Held}
+use Rattle.index.specs.Memory.{View, shown, headOf, Tied, Held}
 use Rattle.index.specs.MemoryLaws.{few32, owners-are, accessed-store, held-of}
 use Rattle.index.specs.Keeping.{fit-accessed, head-with}
 use Rattle.index.specs.declared.Cache.{Cache}
@@ -35,7 +34,7 @@ use Rattle.change.specs.Keeping.{tied-kept, fit-freed-at}
 use Rattle.refine.specs.Lists.{slotsNamed, allSlots, viewedRows}
 use Rattle.infos.specs.Infos.{infoFrom}
 use Rattle.infos.specs.Words.{putInfo}
-use Rattle.access.specs.Access.{slotAt, run, namedFirst, Found, listRefusal, slotsAfter, Refuses, lastCounts, noted, freedEach, viewedWord, viewedBy, settled}
+use Rattle.access.specs.Access.{slotAt, run, Found, listRefusal, slotsAfter, Refuses, lastCounts, noted, freedEach, viewedWord, viewedBy, settled}
 
 -- ---- the slots of a list
 

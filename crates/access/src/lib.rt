@@ -1,9 +1,9 @@
 // Reading and taking a list on numbers: what is refused, which slots the list names, what is shown of each, and what is left in the index.
 ghost use mathlib.Core.Path.{_≡_};
-ghost use mathlib.Core.Bool.{_&&_, cond};
+ghost use mathlib.Core.Bool.{_&&_};
 ghost use Prim.Native.Nat.{_+_, _*_, _/_, _<_, _≤_};
-ghost use lib.Dec.{ltb, eqb};
-ghost use lib.ListN.{length, getD, drop};
+ghost use lib.Dec.{ltb};
+ghost use lib.ListN.{length, getD};
 ghost use Rattle.sampleinfo.specs.Counts.{accessedAt};
 ghost use Rattle.sampleinfo.specs.Samples.{totalOf};
 ghost use Rattle.pairs.specs.Flat.{pairsOf};

@@ -1,5 +1,5 @@
 -- No list of more than 256 pairs is fine: each pair takes a slot of its own.
-use mathlib.Core.Path.{_≡_, refl, sym, ap, _∙_}
+use mathlib.Core.Path.{_≡_, refl, ap, _∙_}
 use mathlib.Core.Bool.{Bool, true, false, cond}
 use mathlib.Core.List.{List, [], _∷_}
 use Prim.Native.Nat.{ℕ, zero, suc, _+_, _≤_, _<_}
@@ -10,7 +10,7 @@ use lib.ListN.{length, getD, set}
 use lib.Dec.{eqb}
 use Rattle.model.specs.Pairs.{Pair}
 use Rattle.model.specs.Model.{Model, fine}
-use Rattle.store.specs.Store.{Store, freed, placeOf}
+use Rattle.store.specs.Store.{Store, freed}
 use Rattle.refine.specs.Good.{Good}
 use Rattle.refine.specs.FitOf.{fit-of}
 use Rattle.refine.specs.Layout.{storeOf}

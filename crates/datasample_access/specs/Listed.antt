@@ -2,9 +2,8 @@
 use mathlib.Core.Path.{_≡_}
 use mathlib.Core.Bool.{Bool, cond}
 use mathlib.Core.List.{List, [], _∷_}
-use Prim.Native.Nat.{ℕ, _+_}
-use lib.ListN.{length, getD, replicate}
-use Rattle.sampleinfo.specs.Samples.{emptySample}
+use Prim.Native.Nat.{ℕ}
+use lib.ListN.{length, replicate}
 use Rattle.sampleinfo.specs.declared.Sample.{Sample}
 use Rattle.model.specs.Model as M
 use Rattle.model.specs.Model.{Model, Answer, Step, Call, step, refuse}

@@ -1,26 +1,23 @@
 -- Reading and taking a list in the code is the model's: the last step of the proof.
 use mathlib.Core.Path.{_≡_, refl, sym, ap, _∙_}
-use mathlib.Core.Bool.{Bool, true, false, _&&_, not, cond, and-false}
+use mathlib.Core.Bool.{Bool, true, false, _&&_, not, and-false}
 use mathlib.Core.List.{List, [], _∷_, _++_}
-use Prim.Native.Nat.{ℕ, zero, suc, _+_, _*_, _/_, _≤_, _<_}
+use Prim.Native.Nat.{ℕ, suc, _+_, _*_, _/_, _≤_, _<_}
 use native.Mathlib.Omega.{arith}
-use borrow.Author.Tests.{lt-ltb, le-ltb, ltb-true, ltb-false, le-leb, lt-leb}
+use borrow.Author.Tests.{ltb-true, ltb-false, le-leb, lt-leb}
 use lib.ListN.{length, getD, drop, replicate, length-map, length-replicate}
 use lib.Dec.{ltb, leb}
 use Rattle.lists.specs.Every.{Every}
-use Rattle.sampleinfo.specs.Counts.{total}
 use Rattle.sampleinfo.specs.Samples.{totalOf}
 use Rattle.sampleinfo.specs.declared.NotAliveGenerationCounts.{NotAliveGenerationCounts}
 use Rattle.sampleinfo.specs.declared.Sample.{Sample}
-use Rattle.sampleinfo.specs.declared.Info.{Info}
 use Rattle.model.specs.Pairs.{Pair, repeats}
 use Rattle.model.specs.Model as M
-use Rattle.model.specs.Model.{Model, Step, isLive, allLive, fine, infosFor, access, accessing, step, refuse}
+use Rattle.model.specs.Model.{Model, isLive, allLive, fine, infosFor, access, accessing, step, refuse}
 use Rattle.pairs.specs.Flat.{pairsOf, wholePairs}
 use Rattle.pairs.specs.FlatLaws.{length-pairs}
-use Rattle.store.specs.Store.{Store, slotNamed, latestSlot, placeOf}
-use Rattle.store.specs.Fit.{Fit}
-use Rattle.index.specs.Memory.{indexOf, shown, headOf, Tied}
+use Rattle.store.specs.Store.{Store, slotNamed, latestSlot}
+use Rattle.index.specs.Memory.{indexOf, headOf, Tied}
 use Rattle.index.specs.MemoryLaws.{few32}
 use Rattle.index.specs.declared.Cache.{Cache}
 use Rattle.refine.specs.Good.{Good}
@@ -32,13 +29,12 @@ use Rattle.refine.specs.Named.{insts-of, Known}
 use Rattle.refine.specs.Fold.{and-true, Names, names-of, known-of}
 use Rattle.refine.specs.Viewed.{take-store, take-table, read-store, read-table}
 use Rattle.refine.specs.Infos.{infos-is, fine-is}
-use Rattle.refine.specs.Lists.{slotsNamed, freedAll, clearedAll, markedAll, seenAt, viewedRows, lastOwned, slotInfos, infosAt, allSlots}
+use Rattle.refine.specs.Lists.{slotsNamed, freedAll, clearedAll, markedAll, seenAt, viewedRows, slotInfos, infosAt, allSlots}
 use Rattle.infos.specs.Words.{placesIn, putInfos, infosThen, wordsOfInfos}
 use Rattle.infos.specs.FlatLaws.{put-all}
 use Rattle.samples.specs.Table.{peekAt}
 use Rattle.memory.specs.Lies.{Lies, tied, table-long}
 use Rattle.access.specs.Access.{run, namedFirst, listRefusal, slotsAfter, Refuses, lastCounts, notedAll, infosBy, freedEach, settled}
-use Rattle.datasample_access.specs.declared.Listed.{Listed}
 use Rattle.datasample_access.specs.declared.Listed.the-variants as listed
 use Rattle.datasample_access.specs.declared.ListOutcome.{ListOutcome}
 use Rattle.datasample_access.specs.Listed.{Told, listing, Came, notListed, listedWith, touchedAll, Served}

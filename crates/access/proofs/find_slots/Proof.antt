@@ -7,10 +7,6 @@ use Rattle.access.specs.AccessLaws.{Finds}
 use Rattle.access.specs.AccessLaws.{finds-start, finds-on, finds-end}
 use Rattle.access.proofs.find_slots.Statement.{statement}
 use Rattle.access.proofs.find_slots.Tie as tie
-use Rattle.access.proofs.find_slots.Reads as reads
-use Rattle.access.proofs.find_slots.Lts as lts
-use Rattle.access.proofs.still.Reads as still-reads
-use Rattle.lookup.proofs.locate.Reads as locate-reads
 
 abbrev Inv-loop : tie.InvT-loop
 Inv-loop h ws list n slots₀ ok₀ i₀ slots ok i = Finds h ws list slots₀ i slots ok × (i ≤ n) × (n ≡ length list / 2) × (n ≤ 256)

@@ -5,11 +5,6 @@ use Rattle.access.specs.AccessLaws.{Frees}
 use Rattle.access.specs.AccessLaws.{frees-start, frees-on, frees-end}
 use Rattle.access.proofs.free_all.Statement.{statement}
 use Rattle.access.proofs.free_all.Tie as tie
-use Rattle.access.proofs.free_all.Reads as reads
-use Rattle.access.proofs.free_all.Lts as lts
-use Rattle.access.proofs.slot_at.Reads as slot-at-reads
-use Rattle.change.proofs.free_slot.Reads as free-slot-reads
-use Rattle.index.proofs.owner_at.Reads as owner-at-reads
 
 abbrev Inv-loop : tie.InvT-loop
 Inv-loop ws₀ slots n head₀ p₀ ws head p = Frees head₀ ws₀ slots n p head ws × (p ≤ n)

@@ -3,12 +3,6 @@ use borrow.Author.Needs.{needs}
 use Rattle.access.specs.AccessLaws.{last-none, last-some}
 use Rattle.access.proofs.last_counts.Statement.{statement}
 use Rattle.access.proofs.last_counts.Tie as tie
-use Rattle.access.proofs.last_counts.Reads as reads
-use Rattle.access.proofs.last_counts.Lts as lts
-use Rattle.access.proofs.slot_at.Reads as slot-at-reads
-use Rattle.index.proofs.meta_at.Reads as meta-at-reads
-use Rattle.index.proofs.owner_at.Reads as owner-at-reads
-use Rattle.sampleinfo.proofs.NotAliveGenerationCounts.zero.Reads as zero-reads
 
 zero-requires : tie.Need-zero-requires
 zero-requires c κs = search needs

@@ -3,8 +3,6 @@ use borrow.Author.Needs.{needs}
 use Rattle.access.specs.AccessLaws.{note-up, note-kept, note-past}
 use Rattle.access.proofs.note.Statement.{statement}
 use Rattle.access.proofs.note.Tie as tie
-use Rattle.access.proofs.note.Reads as reads
-use Rattle.access.proofs.note.Lts as lts
 
 mul-if2 : tie.Need-mul-if2
 mul-if2 c = search needs

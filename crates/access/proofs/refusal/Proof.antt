@@ -3,11 +3,6 @@ use borrow.Author.Needs.{needs}
 use Rattle.access.specs.AccessLaws.{refuse-odd, refuse-many, refuse-twice, refuse-dead, refuse-short, refuse-none}
 use Rattle.access.proofs.refusal.Statement.{statement}
 use Rattle.access.proofs.refusal.Tie as tie
-use Rattle.access.proofs.refusal.Reads as reads
-use Rattle.access.proofs.refusal.Lts as lts
-use Rattle.access.proofs.find_slots.Reads as find-slots-reads
-use Rattle.pairs.proofs.first_repeat.Reads as first-repeat-reads
-use Rattle.pairs.proofs.whole.Reads as whole-reads
 
 whole-requires : tie.Need-whole-requires
 whole-requires c κs = search needs

@@ -3,10 +3,6 @@ use borrow.Author.Needs.{needs}
 use Rattle.access.specs.AccessLaws.{settle-read, settle-take}
 use Rattle.access.proofs.settle.Statement.{statement}
 use Rattle.access.proofs.settle.Tie as tie
-use Rattle.access.proofs.settle.Reads as reads
-use Rattle.access.proofs.settle.Lts as lts
-use Rattle.access.proofs.free_all.Reads as free-all-reads
-use Rattle.access.proofs.view_rows.Reads as view-rows-reads
 
 free-all-requires : tie.Need-free-all-requires
 free-all-requires c κs = search needs

@@ -3,14 +3,6 @@ use borrow.Author.Needs.{needs}
 use Rattle.access.specs.AccessLaws.{show-info, show-noted}
 use Rattle.access.proofs.show.Statement.{statement}
 use Rattle.access.proofs.show.Tie as tie
-use Rattle.access.proofs.show.Reads as reads
-use Rattle.access.proofs.show.Lts as lts
-use Rattle.access.proofs.note.Reads as note-reads
-use Rattle.index.proofs.meta_at.Reads as meta-at-reads
-use Rattle.index.proofs.owner_at.Reads as owner-at-reads
-use Rattle.infos.proofs.make_sample_info.Reads as make-sample-info-reads
-use Rattle.infos.proofs.put_info.Reads as put-info-reads
-use Rattle.sampleinfo.proofs.NotAliveGenerationCounts.accessed.Reads as accessed-reads
 
 owner-at-requires : tie.Need-owner-at-requires
 owner-at-requires c κs = search needs

@@ -3,8 +3,6 @@ use borrow.Author.Needs.{needs}
 use Rattle.access.specs.AccessLaws.{slot-in, slot-past}
 use Rattle.access.proofs.slot_at.Statement.{statement}
 use Rattle.access.proofs.slot_at.Tie as tie
-use Rattle.access.proofs.slot_at.Reads as reads
-use Rattle.access.proofs.slot_at.Lts as lts
 
 mul-result : tie.Need-mul-result
 mul-result c = search needs

@@ -3,8 +3,6 @@ use borrow.Author.Needs.{needs}
 use Rattle.access.specs.AccessLaws.{still-yes, still-no}
 use Rattle.access.proofs.still.Statement.{statement}
 use Rattle.access.proofs.still.Tie as tie
-use Rattle.access.proofs.still.Reads as reads
-use Rattle.access.proofs.still.Lts as lts
 
 returns : tie.Need-returns
 returns c = search (needs, still-yes, still-no)

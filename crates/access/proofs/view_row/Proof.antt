@@ -3,9 +3,6 @@ use borrow.Author.Needs.{needs}
 use Rattle.access.specs.AccessLaws.{view-none, view-some}
 use Rattle.access.proofs.view_row.Statement.{statement}
 use Rattle.access.proofs.view_row.Tie as tie
-use Rattle.access.proofs.view_row.Reads as reads
-use Rattle.access.proofs.view_row.Lts as lts
-use Rattle.index.proofs.set_accessed.Reads as set-accessed-reads
 
 set-accessed-requires : tie.Need-set-accessed-requires
 set-accessed-requires c κs = search needs

@@ -6,10 +6,6 @@ use Rattle.access.specs.AccessLaws.{Views}
 use Rattle.access.specs.AccessLaws.{views-start, views-on, views-end}
 use Rattle.access.proofs.view_rows.Statement.{statement}
 use Rattle.access.proofs.view_rows.Tie as tie
-use Rattle.access.proofs.view_rows.Reads as reads
-use Rattle.access.proofs.view_rows.Lts as lts
-use Rattle.access.proofs.view_row.Reads as view-row-reads
-use Rattle.index.proofs.rows_held.Reads as rows-held-reads
 
 abbrev Inv-loop : tie.InvT-loop
 Inv-loop ws₀ held seen rows row₀ ws row = Views ws₀ held seen row ws × (row ≤ rows) × (rows ≡ min held 32)
