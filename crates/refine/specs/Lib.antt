@@ -19,7 +19,6 @@ pub mod Take
 pub mod Lists
 pub mod Fold
 pub mod Viewed
-pub mod Chosen
 pub mod Choosing
 pub mod Infos
 pub mod OneContent
