@@ -1,7 +1,8 @@
 -- For a caller that prints an answer line by line: how long lines are, and one more line each turn.
 use mathlib.Core.Path.{_≡_, sym, ap, _∙_}
 use mathlib.Core.List.{List, [], _∷_, _++_, append-assoc, append-nil}
-use Prim.Native.Nat.{ℕ, _+_, _≤_}
+use mathlib.Core.Option.{Option, some, none}
+use Prim.Native.Nat.{ℕ, _+_, _*_, _≤_, zero-le}
 use native.Mathlib.Omega.{arith}
 use borrow.Author.Tests.{le-leb}
 use lib.ListN.{length, take, drop, length-append}
@@ -9,7 +10,8 @@ use Rattle.text.specs.NumberLaws.{decimal-length, signed-length}
 use Rattle.sampleinfo.specs.States.{sampleBit, viewBit, instanceBit, kindOf, handleOf}
 use Rattle.sampleinfo.specs.declared.Info.{Info}
 use Rattle.model.specs.Pairs.{Pair}
-use Rattle.printing.specs.Printout.{lineOf, numberLine, pairLine, pairLines, infoLine, infoLines}
+use Rattle.model.specs.Model.{refused, ok, added, next}
+use Rattle.printing.specs.Printout.{lineOf, refusedWord, orDash, numberLine, pairLine, pairLines, infoLine, infoLines, printed}
 use Rattle.printing.specs.Lines.{lined, lineEnd, Lined, Laid}
 use Rattle.printing.specs.LineLaws.{laid-long, laid-then}
 
@@ -39,6 +41,37 @@ info-line-length i =
       signed-length (i .«generation_rank»),
       signed-length (i .«absolute_generation_rank»),
     ))
+
+pub pair-lines-length : (ps : List Pair) → length (pairLines ps) ≤ 42 * length ps
+unfolding pairLines
+pair-lines-length [] = zero-le
+pair-lines-length (p ∷ ps) = rw (length-append (pairLine p) (pairLines ps)) (omega (arith, pair-line-length p, pair-lines-length ps))
+
+pub info-lines-length : (is : List Info) → length (infoLines is) ≤ 212 * length is
+unfolding infoLines
+info-lines-length [] = zero-le
+info-lines-length (i ∷ is) = rw (length-append (infoLine i) (infoLines is)) (omega (arith, info-line-length i, info-lines-length is))
+
+-- the answers of one line
+pub refused-length : (n : ℕ) → length (printed (refused n)) ≤ 256
+unfolding printed
+refused-length n = omega (arith, number-line-length refusedWord n)
+
+pub ok-length : length (printed ok) ≤ 256
+unfolding printed lineOf
+ok-length = omega arith
+
+dash-length : (o : Option ℕ) → length (orDash o) ≤ 20
+dash-length none = omega arith
+dash-length (some n) = decimal-length n
+
+pub added-length : (key slot : ℕ) (out : Option ℕ) → length (printed (added key slot out)) ≤ 256
+unfolding printed lineOf
+added-length key slot out = simp length-append (omega (arith, decimal-length key, decimal-length slot, dash-length out))
+
+pub next-length : (n : Option ℕ) → length (printed (next n)) ≤ 256
+unfolding printed lineOf
+next-length n = simp length-append (omega (arith, dash-length n))
 
 -- ---- a line that had room
 

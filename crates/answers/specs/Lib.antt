@@ -1,0 +1,4 @@
+pub mod Says
+pub mod SoFar
+pub mod BackLaws
+pub mod PrintLaws

@@ -1,0 +1,6 @@
+pub mod answer
+pub mod do_add
+pub mod do_choose
+pub mod do_list
+pub mod do_set_up
+pub mod respond

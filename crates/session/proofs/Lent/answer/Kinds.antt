@@ -1,0 +1,20 @@
+-- Machine-made by `python3 lent.py session answer`: do not edit; make it again when the source changes.
+use Rattle.sampleinfo.proofs.Short as L
+use Rattle.sampleinfo.proofs.Slot as S
+use Rattle.session.proofs.Replied
+use Rattle.session.proofs.Replied.Laws
+use Rattle.session.proofs.Session
+use Rattle.session.proofs.Session.Laws as Laws'
+use borrow.Fn.Kinds
+use borrow.Kind.MutSlice
+use borrow.Kind.ShrSlice
+use denote.Array
+use mathlib.Core.List
+use mathlib.Core.List.{[], _∷_}
+
+abbrev pub ps : List.List (Kinds.PK 6)
+ps = (L.p Session.the-type Laws'.the-laws Laws'.the-copy Laws'.the-plain) ∷ Kinds.pMut (Array.Array L.u64 928) 0 tt ∷ MutSlice.pMutS S.row 1 tt ∷ ShrSlice.pShrS L.u8 2 tt ∷ Kinds.pMut
+    (Array.Array L.u64 8190) 3 tt ∷ Kinds.pMut (Array.Array L.u64 512) 4 tt ∷ Kinds.pMut (Array.Array L.u64 6912) 5 tt ∷ []
+
+abbrev pub r : Kinds.RK 6
+r = L.r Replied.the-type Laws.the-laws Laws.the-copy Laws.the-plain

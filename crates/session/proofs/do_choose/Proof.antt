@@ -1,0 +1,18 @@
+mod Lts
+mod Tie
+use borrow.Author.Needs.{needs}
+use Rattle.session.specs.CallLaws.{choose-answers}
+use Rattle.session.proofs.do_choose.Statement.{statement}
+use Rattle.session.proofs.do_choose.Proof.Tie as tie
+
+choose-requires : tie.Need-choose-requires
+choose-requires c κs = search needs
+
+choose-reply-requires : tie.Need-choose-reply-requires
+choose-reply-requires c κs = search needs
+
+returns : tie.Need-returns
+returns c = search (needs, choose-answers)
+
+pub do-choose-spec : {M : Type 1} → statement M
+do-choose-spec = tie.close (tie.spec choose-requires choose-reply-requires returns)

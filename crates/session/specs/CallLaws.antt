@@ -1,0 +1,209 @@
+-- What each call of the cache answered, as the session says it.
+use mathlib.Core.Path.{_≡_, refl, sym, ap, _∙_}
+use mathlib.Core.Bool.{Bool, true, false, cond}
+use mathlib.Core.List.{List, [], _∷_, _++_}
+use mathlib.Core.Option.{some, none}
+use Prim.Native.Nat.{ℕ, _+_, _*_, _/_, _%_, _≤_, _<_, _^_}
+use native.Mathlib.Omega.{arith}
+use mir.Syntax.{w32}
+use mir.Val.{SFits, toZ, ofZ}
+use mir.Facts.{toZ-ofZ}
+use lib.ListN.{length, take, drop, length-take}
+use lib.Seq.{drop-at}
+use Rattle.sampleinfo.specs.declared.Sample.{Sample}
+use Rattle.sampleinfo.specs.declared.Info.{Info}
+use Rattle.readcondition.specs.declared.ReadCondition.{ReadCondition}
+use Rattle.model.specs.Pairs.{Pair}
+use Rattle.model.specs.Model as M
+use Rattle.model.specs.Model.{Model, Call, Answer, Step, within, keepOf, fresh, step}
+use Rattle.model.specs.Story.{run}
+use Rattle.lookup.specs.declared.Next.{Next}
+use Rattle.lookup.specs.declared.Next.the-variants as next
+use Rattle.refine.specs.Good.{Good}
+use Rattle.refine.specs.GoodLaws.{good-step, good-run}
+use Rattle.memory.specs.Lies.{Lies}
+use Rattle.bounds.specs.Small.{SmallCall, SmallAnswer}
+use Rattle.bounds.specs.SmallLaws.{small-fresh, small-step, small-answer}
+use Rattle.infos.specs.Words.{wordsOfInfos, infosThen, placesIn}
+use Rattle.infos.specs.FlatLaws.{length-words}
+use Rattle.pairs.specs.Flat.{pairsOf, wholePairs}
+use Rattle.datasample_cache.specs.Came.{addedAs, evictedAs, Came}
+use Rattle.datasample_cache.specs.Adding.{arrival}
+use Rattle.datasample_cache.specs.Others.{replyAs, nextAs, setUpOf, SetsUp, Dies}
+use Rattle.datasample_cache.specs.declared.Evicted.{Evicted}
+use Rattle.datasample_cache.specs.declared.Evicted.the-variants as evicted
+use Rattle.datasample_cache.specs.declared.Added.{Added}
+use Rattle.datasample_cache.specs.declared.Added.the-variants as added
+use Rattle.datasample_cache.specs.declared.AddOutcome.{AddOutcome}
+use Rattle.datasample_cache.specs.declared.Reply as cache-reply
+use Rattle.datasample_cache.specs.declared.Reply.the-variants as cache
+use Rattle.datasample_cache.specs.declared.SetUpOutcome.{SetUpOutcome}
+use Rattle.select.specs.Choice.{scopeOf}
+use Rattle.select.specs.Told as select
+use Rattle.select.specs.declared.Within.{Within}
+use Rattle.select.specs.declared.Chosen.{Chosen}
+use Rattle.select.specs.declared.Chosen.the-variants as chosen
+use Rattle.datasample_access.specs.Listed as list
+use Rattle.datasample_access.specs.Listed.{listing}
+use Rattle.datasample_access.specs.declared.Listed.{Listed}
+use Rattle.datasample_access.specs.declared.ListOutcome.{ListOutcome}
+use Rattle.records.specs.Format.{buffer}
+use Rattle.records.specs.Requests.{setUpMeant, arrivalMeant, listPairs, wordsOf, wordsIn, laidIn}
+use Rattle.records.specs.PairLaws.{words-fit, words-laid}
+use Rattle.records.specs.declared.SetUp.{SetUp}
+use Rattle.records.specs.declared.Arrival.{Arrival}
+use Rattle.printing.specs.Lines.{numberIn}
+use Rattle.answers.specs.Says.{Says}
+use Rattle.answers.specs.declared.Reply.{Reply}
+use Rattle.session.specs.Session.{answering, refuse}
+use Rattle.session.specs.Stands.{Ready, Unready, Answers}
+use Rattle.session.specs.Steps.{said, sessionOf, setUpDone, replySaid, evictedSaid, addSaid, addDone, chooseSaid, listSaid, listDone, nextSaid}
+use Rattle.session.specs.declared.Session.{Session}
+use Rattle.session.specs.declared.Replied.{Replied}
+
+-- a cache that was ready is ready after a call
+ready-made : (m : Model) (s s′ : Session) (ws after : List ℕ) (t then : List Sample) (c : Call) → Ready m s ws t → SmallCall c → s′ .ready ≡ true → Lies (step m c .then) (s′ .head) after then
+    → Ready (step m c .then) s′ after then
+ready-made m s s′ ws after t then c r k e l = record { ready = e; good = good-step m (r .good) c; small = small-step m (r .good) (r .small) c k; lies = l }
+
+-- ---- what each reply says
+
+evicted-said : (e : Evicted) → evictedAs e ≡ numberIn (evictedSaid e)
+evicted-said (evicted.Handle h) = refl
+evicted-said evicted.Nothing = refl
+
+add-says : (ps is : List ℕ) (a : Answer) (x : Added) → addedAs x ≡ a → Says (addSaid x) ps is a
+add-says ps is a (added.Added k n e) h = sym h ∙ ap (M.added k n) (evicted-said e)
+add-says ps is a (added.Refused n) h = sym h
+
+reply-says : (ps is : List ℕ) (a : Answer) (x : cache-reply.Reply) → replyAs x ≡ a → Says (replySaid x) ps is a
+reply-says ps is a cache.Ok h = sym h
+reply-says ps is a (cache.Refused n) h = sym h
+
+next-says : (ps is : List ℕ) (x : Next) → Says (nextSaid x) ps is (nextAs x)
+next-says ps is (next.Key k) = refl
+next-says ps is next.Nothing = refl
+
+selected-most : (a : Answer) (n : ℕ) (out : List ℕ) → M.selected (take n (pairsOf out)) ≡ a → chosen.Selected n ≡ chosen.Selected (length (select.pairsTold a)) → n ≤ length (pairsOf out)
+selected-most a n out e k =
+    let z : n ≡ length (take n (pairsOf out)) = chosen-count n (length (take n (pairsOf out))) (rw (← e) at k) in
+    omega (arith, z, length-take n (pairsOf out))
+  where
+    counted : Chosen → ℕ
+    counted (chosen.Selected i) = i
+    counted (chosen.Refused i) = i
+
+    chosen-count : (i j : ℕ) → chosen.Selected i ≡ chosen.Selected j → i ≡ j
+    chosen-count i j p = ap counted p
+
+choose-says : (is was out : List ℕ) (a : Answer) (x : Chosen) → select.Told a x was out → Says (chooseSaid x) out is a
+choose-says is was out a (chosen.Selected n) h = (sym (h .answer), selected-most a n out (h .answer) (h .count))
+choose-says is was out a (chosen.Refused n) h = sym (h .answer)
+
+-- the infos still stand there if they are laid in again
+infos-again : (out after : List ℕ) (xs : List Info) → after ≡ infosThen out xs → after ≡ infosThen after xs
+unfolding infosThen
+infos-again out after xs e =
+    let z : drop (27 * length xs) after ≡ drop (27 * length xs) out = rw e (drop-at (wordsOfInfos xs) (drop (27 * length xs) out) (27 * length xs) (length-words xs)) in
+    e ∙ ap (λ (r : List ℕ). wordsOfInfos xs ++ r) (sym z)
+
+list-says : (ps out after : List ℕ) (a : Answer) (x : Listed) → list.Told a x out after → SmallAnswer a → Says (listSaid x) ps after a
+list-says ps out after (M.infos xs) x h k = rw (h .0) (record { count = refl; words = infos-again out after xs (h .1); small = k })
+list-says ps out after (M.refused n) x h k = rw (h .0) refl
+list-says ps out after M.ok x h k = absurd h
+list-says ps out after (M.added key slot e) x h k = absurd h
+list-says ps out after (M.selected qs) x h k = absurd h
+list-says ps out after (M.next n) x h k = absurd h
+
+-- ---- the words of a list record are whole pairs
+
+words-even : (ps : List Pair) → length (wordsOf ps) % 2 ≡ 0
+unfolding wordsOf
+words-even [] = refl
+words-even (p ∷ ps) = omega (arith, words-even ps)
+
+pairs-back : (ps : List Pair) → pairsOf (wordsOf ps) ≡ ps
+unfolding wordsOf pairsOf
+pairs-back [] = refl
+pairs-back (p ∷ ps) = ap (λ (qs : List Pair). p ∷ qs) (pairs-back ps)
+
+listing-is : (m : Model) (take : Bool) (ps : List Pair) (keys : List ℕ) (room : ℕ) (P : Step → Type 0) → keys ≡ wordsOf ps → room ≡ buffer → P (listing m take keys room) → P (step m (Call.list take ps buffer))
+unfolding listing wholePairs
+listing-is m take ps keys room P k n h = rw (k, n, words-even ps, pairs-back ps) at h
+
+-- as many as were asked for, or all
+pub front-long : (l : List ℕ) (n k : ℕ) → (k ≤ length l) × (n ≤ length l → k ≡ n) → k ≡ length (take k l)
+front-long l n k h = omega (arith, h .0, length-take k l)
+
+-- the words of a record stand at the front of the list
+front-words : (rec buf now′ : List ℕ) (n k : ℕ) → n ≡ length (wordsIn rec) → now′ ≡ laidIn buf (wordsIn rec) → (k ≤ length now′) × (n ≤ length now′ → k ≡ n) → length (wordsIn rec) ≤ length buf → length now′ ≡ length buf
+    → take k now′ ≡ wordsIn rec
+front-words rec buf now′ n k en el ek few long = rw (ek .1 (omega arith), en, el) (words-laid rec buf few)
+
+-- ---- the calls
+
+module _ (s : Session) (ws after : List ℕ) (t then : List Sample) (q : Replied) where
+  pub set-up-answers : (u : SetUp) (r : SetUpOutcome) → q ≡ setUpDone r → SFits w32 (u .keep) → SetsUp (setUpOf (u .mode) (toZ w32 (ofZ w32 (u .keep))) (u .instances)) (s .head) r ws after t then
+      → (ps is : List ℕ) → Unready s t → Answers (answering none (M.setUp (setUpMeant u))) q ps is after then
+  unfolding answering run
+  set-up-answers u r e fits f′ ps is l = rw e (go (within (setUpMeant u)) refl)
+    where
+      f : SetsUp (setUpMeant u) (s .head) r ws after t then
+      f = rw (toZ-ofZ fits) at f′
+
+      go : (b : Bool) → within (setUpMeant u) ≡ b
+          → Answers (cond b (record { answer = M.ok; then = some (fresh (keepOf (setUpMeant u)) (u .instances)) }) (refuse none 2)) (setUpDone r) ps is after then
+      go true w =
+          let x = f .accepted (l .long) w in
+          rw (x .0) (record { says = refl; stands = record { ready = refl; good = good-run (setUpMeant u) w []; small = small-fresh (keepOf (setUpMeant u)) (u .instances); lies = x .1 } })
+      go false w = let x = f .out-of-bounds (l .long) w in rw (x .0) (record { says = refl; stands = record { unready = refl; long = rw (x .2) (l .long) } })
+
+  pub add-answers : (a : Arrival) (w : List ℕ) (h : ℕ) (r : AddOutcome) → q ≡ addDone r → (h ≡ a .handle) × (a .handle < 2 ^ 32)
+      → ((m : Model) → Good m → Lies m (s .head) ws t → Came (step m (Call.add (arrival (a .instance) w (a .«sequence_number») (a .time) (a .kind) h))) r after then)
+      → (m : Model) (ps is : List ℕ) → Ready m s ws t → Answers (answering (some m) (Call.add (arrivalMeant a w))) q ps is after then
+  unfolding answering
+  add-answers a w h r e k f m ps is l =
+      let x : Came (step m (Call.add (arrivalMeant a w))) r after then = rw (k .0) at f m (l .good) (l .lies) in
+      rw e
+      (record { says = add-says ps is _ (r .answer) (x .answer); stands = ready-made m s (sessionOf (r .head) true) ws after t then (Call.add (arrivalMeant a w)) l (k .1) refl (x .lies) })
+
+  -- the words of the record were laid at the front of the list, which has room for those of any record
+  pub list-answers : (taken b : Bool) (rec buf now′ was out : List ℕ) (n k : ℕ) (r : ListOutcome) → q ≡ listDone r
+      → ((m : Model) → Good m → Lies m (s .head) ws t → list.Came (listing m b (take k now′) (placesIn was)) r after then was out) → taken ≡ b
+      → now′ ≡ laidIn buf (wordsIn rec) → n ≡ length (wordsIn rec) → length now′ ≡ length buf → (k ≤ length now′) × (n ≤ length now′ → k ≡ n) → length was ≡ 6912
+      → (m : Model) (ps : List ℕ) → length rec < 65536 → 8190 ≤ length buf → Ready m s ws t → Answers (answering (some m) (Call.list taken (listPairs rec) buffer)) q ps out after then
+  unfolding answering
+  list-answers taken b rec buf now′ was out n k r e f eb el en long ek room m ps h big l =
+      let c : Call = Call.list b (listPairs rec) buffer in
+      let x : list.Came (step m c) r after then was out = listing-is m b (listPairs rec) (take k now′) (placesIn was) (λ st. list.Came st r after then was out)
+      (front-words rec buf now′ n k en el ek (omega (arith, words-fit rec (omega arith))) long) (ap (λ i. i / 27) room) (f m (l .good) (l .lies)) in
+      rw (e, eb)
+      (record {
+        says = list-says ps was out (step m c .answer) (r .answer) (x .answer) (small-answer m (l .good) (l .small) c);
+        stands = ready-made m s (sessionOf (r .head) true) ws after t then c l tt refl (x .lies);
+      })
+
+  pub choose-answers : (w : Within) (c : ReadCondition) (was out : List ℕ) (r : Chosen) (x : Reply) → x ≡ chooseSaid r → q ≡ said s x → length was ≡ 512
+      → ((m : Model) → Good m → Lies m (s .head) ws t → select.Told (step m (Call.look (scopeOf w) c (length was / 2)) .answer) r was out)
+      → (m : Model) (is : List ℕ) → Ready m s ws t → Answers (answering (some m) (Call.look (scopeOf w) c buffer)) q out is ws t
+  unfolding answering step
+  choose-answers w c was out r x k e n f m is l =
+      let y : select.Told (step m (Call.look (scopeOf w) c buffer) .answer) r was out = rw n at f m (l .good) (l .lies) in
+      rw (e, k) (record { says = choose-says is was out _ r y; stands = l })
+
+  pub no-writers-answers : (i : ℕ) (r : cache-reply.Reply) (x : Reply) → x ≡ replySaid r → q ≡ said s x
+      → ((m : Model) (t : List Sample) → Good m → Lies m (s .head) ws t → Dies (step m (Call.dies i)) r (s .head) after t)
+      → (m : Model) (t : List Sample) (ps is : List ℕ) → Ready m s ws t → Answers (answering (some m) (Call.dies i)) q ps is after t
+  unfolding answering
+  no-writers-answers i r x k e f m t ps is l =
+      let y : Dies (step m (Call.dies i)) r (s .head) after t = f m t (l .good) (l .lies) in
+      rw (e, k)
+      (record { says = reply-says ps is _ r (y .answer); stands = ready-made m s s ws after t t (Call.dies i) l tt (l .ready) (y .lies) })
+
+  pub next-answers : (i : ℕ) (r : Next) (x : Reply) → x ≡ nextSaid r → q ≡ said s x
+      → ((m : Model) (t : List Sample) → Good m → Lies m (s .head) ws t → step m (Call.after i) ≡ record { answer = nextAs r; then = m })
+      → (m : Model) (t : List Sample) (ps is : List ℕ) → Ready m s ws t → Answers (answering (some m) (Call.after i)) q ps is ws t
+  unfolding answering
+  next-answers i r x k e f m t ps is l =
+      let y : step m (Call.after i) ≡ record { answer = nextAs r; then = m } = f m t (l .good) (l .lies) in
+      rw (e, k, y) (record { says = next-says ps is r; stands = l })

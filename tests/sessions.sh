@@ -1,0 +1,29 @@
+#!/usr/bin/env bash
+# The session program on every stored session: what it prints, byte for byte, and that it ends with status 0.
+# tests/sessions (made by tools/make_sessions.py, printouts by tools/reference.py) and tests/vectors (made by the Rust reference of oracle/).
+set -u
+cd "$(dirname "$0")" || exit 1
+program=../target/bin/session_main
+[ -x "$program" ] || { echo "no $program: rt check session_main builds it"; exit 1; }
+printed=$(mktemp)
+trap 'rm -f "$printed"' EXIT
+count=0
+bad=0
+
+# one SESSION EXPECTED
+one() {
+  count=$((count + 1))
+  if ! "$program" <"$1" >"$printed"; then
+    echo "$1: exit status"
+    bad=$((bad + 1))
+  elif ! cmp -s "$printed" "$2"; then
+    echo "$1: another printout: $(cmp "$printed" "$2" 2>&1)"
+    bad=$((bad + 1))
+  fi
+}
+
+for s in sessions/*.session; do one "$s" "${s%.session}.out"; done
+one ../example/bench.session ../example/bench.out
+for s in vectors/*.session; do one "$s" "${s%.session}.printout"; done
+echo "$count sessions, $bad differ"
+[ "$count" -ge 400 ] && [ "$bad" -eq 0 ]
