@@ -32,9 +32,6 @@ module _ (n : ℕ) where
   pub reply-refused : (x : cache-reply.Reply) → x ≡ cache.Refused n → reply.Refused n ≡ replySaid x
   reply-refused x e = rw e refl
 
-  pub not-ok : (x : cache-reply.Reply) → x ≡ cache.Refused n → false ≡ isOk x
-  not-ok x e = rw e refl
-
   pub evicted-handle : (x : Evicted) → x ≡ evicted.Handle n → maybe.Number n ≡ evictedSaid x
   evicted-handle x e = rw e refl
 
@@ -58,9 +55,6 @@ module _ (n : ℕ) where
 
 pub reply-ok : (x : cache-reply.Reply) → x ≡ cache.Ok → reply.Ok ≡ replySaid x
 reply-ok x e = rw e refl
-
-pub is-ok : (x : cache-reply.Reply) → x ≡ cache.Ok → true ≡ isOk x
-is-ok x e = rw e refl
 
 pub evicted-nothing : (x : Evicted) → x ≡ evicted.Nothing → maybe.None ≡ evictedSaid x
 evicted-nothing x e = rw e refl
