@@ -57,6 +57,14 @@ impl Answer {
         }
     }
 
+    /// A line for each info, its writer and its sequence number: what `full_main` prints behind the lines of an answer.
+    pub fn sources(&self) -> String {
+        match self {
+            Answer::Samples(infos) => infos.iter().map(|i| i.source() + "\n").collect(),
+            _ => String::new(),
+        }
+    }
+
     /// The lines. `full` adds writer and sequence number to an info, which the session program does not print.
     pub fn lines(&self, full: bool) -> String {
         let mut out = String::new();
@@ -111,9 +119,14 @@ impl Info {
             self.absolute_generation_rank
         );
         if full {
-            let writer: String = self.writer.iter().map(|b| format!("{b:02x}")).collect();
-            let _ = write!(out, " {writer} {}", self.sequence);
+            let _ = write!(out, " {}", self.source());
         }
         out.push('\n');
+    }
+
+    /// Writer and sequence number.
+    fn source(&self) -> String {
+        let writer: String = self.writer.iter().map(|b| format!("{b:02x}")).collect();
+        format!("{writer} {}", self.sequence)
     }
 }

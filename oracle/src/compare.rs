@@ -73,23 +73,19 @@ pub fn with_the_rust(steps: &[Step], wrong: Option<Wrong>, tally: &mut Tally) {
 
 impl Tally {
     pub fn print(&self, title: &str) {
+        let differences = self.differences.len();
         if self.lines > 0 {
             println!(
-                "{title}: {} sessions, {} lines; differences: {}",
+                "{title}: {} sessions, {} lines{}; differences: {differences}",
                 self.sessions,
                 self.lines,
-                self.differences.len()
+                self.spoken()
             );
         } else {
             println!(
                 "{title}: {} sessions, {} answers on the ground, {} more by the hooks ({} with a negative rank); {} never left \
-                 the ground; differences: {}",
-                self.sessions,
-                self.on_ground,
-                self.by_hook,
-                self.negative_ranks,
-                self.never_left,
-                self.differences.len()
+                 the ground; differences: {differences}",
+                self.sessions, self.on_ground, self.by_hook, self.negative_ranks, self.never_left,
             );
         }
         for (why, count) in &self.left {
@@ -97,6 +93,17 @@ impl Tally {
         }
         for difference in self.differences.iter().take(3) {
             println!("DIFFERENCE {difference}");
+        }
+    }
+
+    /// For a program beside the Rust itself (`direct.rs`).
+    fn spoken(&self) -> String {
+        match self.on_ground {
+            0 => String::new(),
+            n => format!(
+                " of {n} answers on the ground; {} never left it",
+                self.never_left
+            ),
         }
     }
 

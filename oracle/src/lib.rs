@@ -3,6 +3,7 @@
 
 pub mod answer;
 pub mod compare;
+pub mod direct;
 pub mod external;
 pub mod generate;
 pub mod judge;

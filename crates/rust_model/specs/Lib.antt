@@ -4,3 +4,4 @@ pub mod Ground
 pub mod Equal
 pub mod TopicCache
 pub mod TopicEqual
+pub mod Members

@@ -6,12 +6,17 @@
 //! (in how many sessions each wrong variant of the reference is seen), topic (the topic cache), corners (sessions by hand), pipe (those,
 //! each record sent only when the one before is answered; programs only), write
 //! (corners and random sessions as files `NAME.session` and `NAME.printout` in the folder given by --folder).
+//! Programs only, docs/src itself against the program, up to the first record outside the ground: judge (random sessions), judge-full (those,
+//! for full_main, which prints each info's writer and sequence number too), judge-short, judge-corners, judge-topic. Programs only, for the topic cache: topic-damage, topic-pipe (sessions by hand).
 
 use std::{env, fs, io, path::PathBuf, process::ExitCode, time::Instant};
 
 use oracle::{
     compare::{expected, over_a_pipe, with_program, with_the_rust, Tally},
-    generate::{bytes, corners::corners, damage::damage, profile::PROFILES, random, short, Step},
+    direct::{rust_and_program, rust_and_topic_program},
+    generate::{
+        bytes, corners::corners, damage::damage, profile::PROFILES, random, records, short, Step,
+    },
     rng::Rng,
     sensitivity::{rows, stream, topic_rows, topic_stream},
     session, topic,
@@ -58,21 +63,22 @@ fn options() -> Option<Options> {
 
 fn main() -> io::Result<ExitCode> {
     let Some(o) = options() else {
-        eprintln!("compare random|short|damage|sensitivity|topic|corners|pipe|write [--seed N] [--sessions N] [--length N] [--every N] [--program PATH] [--folder PATH] [--profile NAME]");
+        eprintln!("compare random|short|damage|sensitivity|topic|topic-damage|topic-pipe|corners|pipe|judge|judge-full|judge-short|judge-corners|judge-topic|write [--seed N] [--sessions N] [--length N] [--every N] [--program PATH] [--folder PATH] [--profile NAME]");
         return Ok(ExitCode::from(2));
     };
-    if matches!(o.kind.as_str(), "damage" | "pipe") && o.program.is_none() {
+    if needs_program(&o.kind) && o.program.is_none() {
         eprintln!("{} needs --program", o.kind);
         return Ok(ExitCode::from(2));
     }
     let start = Instant::now();
     let differences = match o.kind.as_str() {
-        "random" => random_sessions(&o)?,
-        "short" => short_sessions(&o)?,
+        "random" | "judge" | "judge-full" => random_sessions(&o)?,
+        "short" | "judge-short" => short_sessions(&o)?,
         "damage" => damaged_sessions(&o)?,
         "sensitivity" => sensitivity(&o),
-        "topic" => topic_runs(&o)?,
-        "corners" => corner_sessions(&o)?,
+        "topic" | "topic-damage" | "judge-topic" => topic_runs(&o)?,
+        "topic-pipe" => topic_pipe(&o)?,
+        "corners" | "judge-corners" => corner_sessions(&o)?,
         "pipe" => pipe_sessions(&o)?,
         "write" => write_sessions(&o)?,
         other => {
@@ -91,10 +97,18 @@ fn main() -> io::Result<ExitCode> {
     })
 }
 
+fn needs_program(kind: &str) -> bool {
+    let both = ["damage", "pipe", "topic-damage", "topic-pipe"];
+    both.contains(&kind) || kind.starts_with("judge")
+}
+
 /// One session on the side that was asked for. A program gets the sessions that bytes can say.
 fn one(o: &Options, steps: &[Step], tally: &mut Tally) -> io::Result<()> {
-    match (&o.program, bytes(steps)) {
-        (Some(program), Some(bytes)) => with_program(program, &bytes, tally),
+    match (&o.program, records(steps)) {
+        (Some(program), Some(records)) if o.kind.starts_with("judge") => {
+            rust_and_program(program, &records, o.kind == "judge-full", tally)
+        }
+        (Some(program), Some(records)) => with_program(program, &session::encode(&records), tally),
         (Some(_), None) => Ok(()),
         (None, _) => {
             with_the_rust(steps, None, tally);
@@ -236,13 +250,39 @@ fn topic_runs(o: &Options) -> io::Result<usize> {
         let mut tally = topic::compare::Tally::default();
         for _ in 0..o.sessions {
             let calls = topic::generate::run(&mut rng, kind);
-            match &o.program {
-                Some(program) => topic::compare::with_program(program, &calls, &mut tally)?,
-                None => topic::compare::with_the_rust(&calls, None, &mut tally),
-            }
+            one_topic(o, &calls, &mut rng, &mut tally)?;
         }
         tally.print(&format!("{kind:?}"));
         differences += tally.differences.len();
     }
     Ok(differences)
+}
+
+fn one_topic(
+    o: &Options,
+    calls: &[topic::Call],
+    rng: &mut Rng,
+    tally: &mut topic::compare::Tally,
+) -> io::Result<()> {
+    let Some(program) = &o.program else {
+        topic::compare::with_the_rust(calls, None, tally);
+        return Ok(());
+    };
+    let bytes = topic::format::encode(calls);
+    match o.kind.as_str() {
+        "judge-topic" => rust_and_topic_program(program, calls, tally),
+        "topic-damage" => topic::compare::with_program(program, &damage(rng, bytes), tally),
+        _ => topic::compare::with_program(program, &bytes, tally),
+    }
+}
+
+fn topic_pipe(o: &Options) -> io::Result<usize> {
+    let mut tally = topic::compare::Tally::default();
+    if let Some(program) = &o.program {
+        for calls in topic::generate::corners() {
+            topic::compare::over_a_pipe(program, &calls, &mut tally)?;
+        }
+    }
+    tally.print("over a pipe");
+    Ok(tally.differences.len())
 }

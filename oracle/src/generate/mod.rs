@@ -19,14 +19,15 @@ pub enum Step {
     Seed(u64, Counts),
 }
 
-/// The session as bytes, unless it has a step that bytes cannot say.
+/// The session's records, unless it has a step that bytes cannot say.
+pub fn records(steps: &[Step]) -> Option<Vec<Record>> {
+    let each = steps.iter().map(|step| match step {
+        Step::Record(record) => Some(record.clone()),
+        Step::Seed(..) => None,
+    });
+    each.collect()
+}
+
 pub fn bytes(steps: &[Step]) -> Option<Vec<u8>> {
-    let records: Option<Vec<Record>> = steps
-        .iter()
-        .map(|step| match step {
-            Step::Record(record) => Some(record.clone()),
-            Step::Seed(..) => None,
-        })
-        .collect();
-    records.map(|r| encode(&r))
+    records(steps).map(|r| encode(&r))
 }

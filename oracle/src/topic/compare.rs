@@ -3,13 +3,13 @@
 use std::{io, path::Path};
 
 use super::{
-    format::{encode, lines},
+    format::{decode, encode, lines},
     judge::Judge,
     reference::Reference,
     wrong::Wrong,
     Call, Reply,
 };
-use crate::external::{first_difference, run};
+use crate::external::{first_difference, run, talk};
 
 #[derive(Debug, Default)]
 pub struct Tally {
@@ -17,22 +17,35 @@ pub struct Tally {
     pub replies: u64,
     pub never_left: u64,
     pub most_held: usize,
+    /// Lines compared with a program.
+    pub lines: u64,
     pub differences: Vec<String>,
 }
 
 impl Tally {
     pub fn print(&self, title: &str) {
         println!(
-            "topic, {title}: {} runs, {} replies, {} never left the ground, at most {} held; differences: {}",
+            "topic, {title}: {} runs, {} replies{}{}; differences: {}",
             self.runs,
             self.replies,
-            self.never_left,
-            self.most_held,
+            told(self.lines, "lines"),
+            told(self.never_left, "never left the ground"),
             self.differences.len()
         );
+        if self.most_held > 0 {
+            println!("  at most {} held", self.most_held);
+        }
         for difference in self.differences.iter().take(3) {
             println!("DIFFERENCE {difference}");
         }
+    }
+}
+
+/// A count that not every comparison has.
+fn told(count: u64, what: &str) -> String {
+    match count {
+        0 => String::new(),
+        n => format!(", {n} {what}"),
     }
 }
 
@@ -75,18 +88,48 @@ pub fn variant_parts(calls: &[Call], wrong: Wrong) -> bool {
     })
 }
 
-/// The hook for a program that speaks `format.rs`.
-pub fn with_program(program: &Path, calls: &[Call], tally: &mut Tally) -> io::Result<()> {
+/// What a program that speaks `format.rs` must print, record by record.
+fn expected(bytes: &[u8]) -> Vec<String> {
     let mut reference = Reference::default();
-    let replies: Vec<Reply> = calls.iter().map(|c| reference.step(c)).collect();
-    let expected: String = replies.iter().map(lines).collect();
-    let got = run(program, &encode(calls))?;
+    let calls = decode(bytes).into_iter();
+    calls
+        .map(|call| call.map_or(Reply::Refused(1), |c| reference.step(&c)))
+        .map(|reply| lines(&reply))
+        .collect()
+}
+
+pub fn count_lines(answers: &[String]) -> u64 {
+    answers.iter().map(|a| a.lines().count() as u64).sum()
+}
+
+/// A program against the reference, every line, everywhere; the bytes may be damaged.
+pub fn with_program(program: &Path, bytes: &[u8], tally: &mut Tally) -> io::Result<()> {
+    let expected = expected(bytes);
+    let got = run(program, bytes)?;
     tally.runs += 1;
-    tally.replies += replies.len() as u64;
-    if let Some((line, ours, theirs)) = first_difference(&expected, &got) {
+    tally.replies += expected.len() as u64;
+    tally.lines += count_lines(&expected);
+    if let Some((line, ours, theirs)) = first_difference(&expected.concat(), &got) {
         tally.differences.push(format!(
             "line {line}\n  reference: {ours}\n  program:   {theirs}"
         ));
     }
+    Ok(())
+}
+
+/// The same over a pipe: a record goes out only when the one before is answered.
+pub fn over_a_pipe(program: &Path, calls: &[Call], tally: &mut Tally) -> io::Result<()> {
+    let answers = expected(&encode(calls));
+    tally.lines += count_lines(&answers);
+    let mut parts = Vec::new();
+    // The version byte goes with the first record.
+    let mut part = vec![1];
+    for (call, answer) in calls.iter().zip(answers) {
+        part.extend(&encode(std::slice::from_ref(call))[1..]);
+        parts.push((std::mem::take(&mut part), answer));
+    }
+    tally.runs += 1;
+    tally.replies += parts.len() as u64;
+    tally.differences.extend(talk(program, &parts)?);
     Ok(())
 }

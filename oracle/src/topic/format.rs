@@ -4,7 +4,9 @@
 //! 0 new and 1 update: keep (0 default, 1 KeepLast, 2 KeepAll), depth (i32), whether max_samples is given (0 or 1), max_samples (i32).
 //! 2 add: writer (16), sequence number (8), handle (4), payload length (4), time (8). 3 remove before: time. 4 range: start, end.
 //! Answers: `ok`, `key K`, `held already`, `refused N`, or `entries N` and for each a line: key, writer (32 hex digits), sequence
-//! number, handle, length. A call before the first new is refused with 10; a new starts afresh.
+//! number, handle, length. A call before the first accepted new is refused with 10; a new starts afresh.
+//! As in the session format, a wrong length or operation is refused with 1, and so is a byte that names no keep or is neither 0 nor 1;
+//! a missing or wrong version byte or a cut-off record is refused with 1 and ends the session. 1 comes first, then 10, then the rest.
 
 use std::fmt::Write;
 
@@ -58,15 +60,14 @@ fn limits(operation: u8, l: &Limits, out: &mut Vec<u8>) {
     out.extend(l.max_samples.unwrap_or(0).to_be_bytes());
 }
 
-/// The calls in the bytes; `None` stands for a record that is no call.
+/// The calls in the bytes; `None` stands for what is refused with 1. Nothing follows a wrong version or a cut-off record.
 pub fn decode(bytes: &[u8]) -> Vec<Option<Call>> {
     let mut out = Vec::new();
     let Some((1, mut rest)) = bytes.split_first() else {
         return vec![None];
     };
-    while let Some((head, tail)) = rest.split_first_chunk() {
-        let length = usize::from(u16::from_be_bytes(*head));
-        let Some((body, tail)) = tail.split_at_checked(length) else {
+    while !rest.is_empty() {
+        let Some((body, tail)) = next_record(rest) else {
             out.push(None);
             return out;
         };
@@ -76,39 +77,48 @@ pub fn decode(bytes: &[u8]) -> Vec<Option<Call>> {
     out
 }
 
+/// What the two length bytes announce, if it is all there, and what follows it.
+fn next_record(rest: &[u8]) -> Option<(&[u8], &[u8])> {
+    let (head, tail) = rest.split_first_chunk()?;
+    tail.split_at_checked(u16::from_be_bytes(*head).into())
+}
+
 fn call(body: &[u8]) -> Option<Call> {
-    let number = |from: usize, length: usize| -> Option<u64> {
-        let part = body.get(from..from + length)?;
-        Some(part.iter().fold(0, |n, b| n << 8 | u64::from(*b)))
-    };
-    let read_limits = || -> Option<Limits> {
-        Some(Limits {
-            keep: match body.get(1)? {
-                0 => None,
-                1 => Some(Keep::Last(number(2, 4)? as u32 as i32)),
-                _ => Some(Keep::All),
-            },
-            max_samples: if *body.get(6)? == 0 {
-                None
-            } else {
-                Some(number(7, 4)? as u32 as i32)
-            },
-        })
-    };
-    match body.first()? {
-        0 => Some(Call::New(read_limits()?)),
-        1 => Some(Call::Update(read_limits()?)),
-        2 => Some(Call::Add(Entry {
-            writer: body.get(1..17)?.try_into().ok()?,
-            sequence: number(17, 8)?,
-            handle: number(25, 4)? as u32,
-            length: number(29, 4)? as u32,
-            key: number(33, 8)?,
+    match (body.first()?, body.len()) {
+        (0, 11) => Some(Call::New(limits_in(body)?)),
+        (1, 11) => Some(Call::Update(limits_in(body)?)),
+        (2, 41) => Some(Call::Add(Entry {
+            writer: body[1..17].try_into().ok()?,
+            sequence: number(&body[17..25]),
+            handle: number(&body[25..29]) as u32,
+            length: number(&body[29..33]) as u32,
+            key: number(&body[33..]),
         })),
-        3 => Some(Call::RemoveBefore(number(1, 8)?)),
-        4 => Some(Call::Range(number(1, 8)?, number(9, 8)?)),
+        (3, 9) => Some(Call::RemoveBefore(number(&body[1..]))),
+        (4, 17) => Some(Call::Range(number(&body[1..9]), number(&body[9..]))),
         _ => None,
     }
+}
+
+fn number(bytes: &[u8]) -> u64 {
+    bytes.iter().fold(0, |n, b| n << 8 | u64::from(*b))
+}
+
+fn limits_in(body: &[u8]) -> Option<Limits> {
+    let signed = |bytes: &[u8]| number(bytes) as u32 as i32;
+    Some(Limits {
+        keep: match body[1] {
+            0 => None,
+            1 => Some(Keep::Last(signed(&body[2..6]))),
+            2 => Some(Keep::All),
+            _ => return None,
+        },
+        max_samples: match body[6] {
+            0 => None,
+            1 => Some(signed(&body[7..])),
+            _ => return None,
+        },
+    })
 }
 
 pub fn lines(reply: &Reply) -> String {

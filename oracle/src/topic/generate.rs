@@ -48,6 +48,20 @@ pub fn corners() -> Vec<Vec<Call>> {
     vec![greatest, full]
 }
 
+/// Three writers that differ in the first or the last byte alone; every hex digit is in them, and no two bytes are alike.
+fn writer(number: u64) -> [u8; 16] {
+    let mut out = [
+        0x01, 0x23, 0x45, 0x67, 0x89, 0xab, 0xcd, 0xef, 0xfe, 0xdc, 0xba, 0x98, 0x76, 0x54, 0x32,
+        0x10,
+    ];
+    match number {
+        0 => (),
+        1 => out[0] = 0xf0,
+        _ => out[15] = 0x0f,
+    }
+    out
+}
+
 struct Maker<'a> {
     rng: &'a mut Rng,
     kind: Kind,
@@ -64,6 +78,11 @@ pub fn run(rng: &mut Rng, kind: Kind) -> Vec<Call> {
         calls: Vec::new(),
         number: 0,
     };
+    // Seldom a call before the first new.
+    if kind == Kind::Faulty && maker.rng.one_in(10) {
+        let early = maker.next();
+        maker.push(early);
+    }
     let limits = maker.limits();
     maker.push(Call::New(limits));
     let steps = match kind {
@@ -109,6 +128,9 @@ impl Maker<'_> {
 
     fn next(&mut self) -> Call {
         let filling = self.kind == Kind::Filling;
+        if self.kind == Kind::Faulty && self.rng.one_in(40) {
+            return Call::New(self.limits());
+        }
         match self.rng.below(if filling { 300 } else { 12 }) {
             0 => Call::Update(self.limits()),
             1 => Call::RemoveBefore(self.near_key()),
@@ -163,7 +185,7 @@ impl Maker<'_> {
     }
 
     fn fresh(&mut self) -> ([u8; 16], u64) {
-        let writer = [self.rng.below(3) as u8; 16];
+        let writer = writer(self.rng.below(3));
         if self.kind == Kind::Filling {
             return (writer, 64 * self.number + 1 + self.rng.below(63));
         }

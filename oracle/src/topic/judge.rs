@@ -29,7 +29,8 @@ impl Judge {
     pub fn outside(&self, call: &Call) -> bool {
         let six = self.last_added() == u64::MAX && matches!(call, Call::Add(_));
         let full = self.topic.as_ref().is_some_and(|t| t.held() >= PLACES);
-        refused(call).is_some() || six || full
+        let ten = self.topic.is_none() && !matches!(call, Call::New(_));
+        refused(call).is_some() || ten || six || full
     }
 
     fn last_added(&self) -> u64 {

@@ -29,22 +29,17 @@ impl Reference {
         self.topic.as_ref().map_or(0, |t| t.last_key)
     }
 
+    /// "1 comes first everywhere. [..] Program: 10, then the rest."
     pub fn step(&mut self, call: &Call) -> Reply {
-        if let Some(number) = refused(call) {
-            return Reply::Refused(number);
-        }
-        if let Call::New(limits) = call {
-            let (keep, max_samples) = self.raised(limits);
-            self.topic = Some(Topic {
-                keep,
-                max_samples,
-                last_key: 0,
-                entries: Vec::new(),
-            });
-            return Reply::Ok;
+        let ten = self.topic.is_none() && !matches!(call, Call::New(_));
+        match refused(call) {
+            Some(1) => return Reply::Refused(1),
+            _ if ten => return Reply::Refused(10),
+            Some(number) => return Reply::Refused(number),
+            None => (),
         }
         match call {
-            Call::New(_) => Reply::Ok,
+            Call::New(limits) => self.start(limits),
             Call::Update(limits) => self.update(limits),
             Call::Add(entry) => self.add(entry),
             Call::RemoveBefore(time) => {
@@ -53,6 +48,17 @@ impl Reference {
             }
             Call::Range(start, end) => self.range(*start, *end),
         }
+    }
+
+    fn start(&mut self, limits: &Limits) -> Reply {
+        let (keep, max_samples) = self.raised(limits);
+        self.topic = Some(Topic {
+            keep,
+            max_samples,
+            last_key: 0,
+            entries: Vec::new(),
+        });
+        Reply::Ok
     }
 
     fn is(&self, wrong: Wrong) -> bool {
@@ -97,9 +103,6 @@ impl Reference {
     }
 
     fn add(&mut self, new: &Entry) -> Reply {
-        if self.topic.is_none() {
-            return Reply::Refused(10);
-        }
         let before = self.clone();
         if self.is(Wrong::HeldBeforeCollection) && self.holds(new) {
             return Reply::HeldAlready;
