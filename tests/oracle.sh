@@ -9,8 +9,8 @@ cargo build --release --offline
 target/release/compare random --sessions 1000 --seed "${SEED:-11}"
 target/release/compare short --length 4
 target/release/compare topic --sessions 500 --seed "${SEED:-11}"
-# The proved session program: every line against the reference, and against the Rust itself on the common ground; full_main prints each info's writer
-# and sequence number too.
+# The proved session program: every line against the reference, and against the Rust itself on the common ground; full_session prints each info's
+# writer and sequence number too.
 program=../target/bin/session_main
 target/release/compare pipe --program "$program"
 target/release/compare corners --program "$program"
@@ -20,7 +20,7 @@ target/release/compare short --length 5 --every 503 --program "$program"
 target/release/compare judge-corners --program "$program"
 target/release/compare judge --sessions 300 --seed "${SEED:-11}" --program "$program"
 target/release/compare judge-short --length 5 --every 307 --program "$program"
-target/release/compare judge-full --sessions 300 --seed "${SEED:-11}" --program ../target/bin/full_main
+target/release/compare judge-full --sessions 300 --seed "${SEED:-11}" --program ../tools/full_session
 # The proved program over the topic cache: every line against the reference, and against the Rust itself on the common ground.
 program=../target/bin/topic_main
 target/release/compare topic-pipe --program "$program"

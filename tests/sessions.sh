@@ -10,10 +10,10 @@ trap 'rm -f "$printed"' EXIT
 count=0
 bad=0
 
-# one SESSION EXPECTED
+# one SESSION EXPECTED [ARGUMENT]
 one() {
   count=$((count + 1))
-  if ! "$program" <"$1" >"$printed"; then
+  if ! "$program" ${3:+"$3"} <"$1" >"$printed"; then
     echo "$1: exit status"
     bad=$((bad + 1))
   elif ! cmp -s "$printed" "$2"; then
@@ -24,6 +24,7 @@ one() {
 
 for s in sessions/*.session; do one "$s" "${s%.session}.out"; done
 one ../example/bench.session ../example/bench.out
+one full.session full.out --full
 for s in vectors/*.session; do one "$s" "${s%.session}.printout"; done
 echo "$count sessions, $bad differ"
 [ "$count" -ge 400 ] && [ "$bad" -eq 0 ]

@@ -57,7 +57,7 @@ impl Answer {
         }
     }
 
-    /// A line for each info, its writer and its sequence number: what `full_main` prints behind the lines of an answer.
+    /// A line for each info, its writer and its sequence number: what `full_session` prints behind the lines of an answer.
     pub fn sources(&self) -> String {
         match self {
             Answer::Samples(infos) => infos.iter().map(|i| i.source() + "\n").collect(),

@@ -18,7 +18,7 @@ struct Spoken {
     left: Option<&'static str>,
 }
 
-/// `sources`: with the lines that `full_main` prints more.
+/// `sources`: with the lines that `full_session` prints more.
 fn spoken(records: &[Record], sources: bool) -> Spoken {
     let mut judge = Judge::default();
     let mut out = Spoken {

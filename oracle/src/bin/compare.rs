@@ -7,7 +7,7 @@
 //! each record sent only when the one before is answered; programs only), write
 //! (corners and random sessions as files `NAME.session` and `NAME.printout` in the folder given by --folder).
 //! Programs only, docs/src itself against the program, up to the first record outside the ground: judge (random sessions), judge-full (those,
-//! for full_main, which prints each info's writer and sequence number too), judge-short, judge-corners, judge-topic. Programs only, for the topic cache: topic-damage, topic-pipe (sessions by hand).
+//! for full_session, which prints each info's writer and sequence number too), judge-short, judge-corners, judge-topic. Programs only, for the topic cache: topic-damage, topic-pipe (sessions by hand).
 
 use std::{env, fs, io, path::PathBuf, process::ExitCode, time::Instant};
 
