@@ -1,1 +1,2 @@
 pub mod choose
+pub mod choose_within

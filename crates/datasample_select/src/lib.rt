@@ -1,6 +1,7 @@
 // datasample_cache.rs: select_keys_for_access and select_instance_keys_for_access over lent memory.
 ghost use mathlib.Core.Path.{_≡_};
 ghost use Prim.Native.Nat.{_/_};
+ghost use mathlib.Core.Option.{some};
 ghost use lib.ListN.{length};
 ghost use Rattle.model.specs.Model.{Model, Call, step};
 ghost use Rattle.refine.specs.Good.{Good};
@@ -33,4 +34,19 @@ pub fn choose(
     let mut seen = [0u64; 768];
     samples::gather(t, &mut seen);
     select::select(h, ws, &seen, within, rc, out)
+}
+
+// select_instance_keys_for_access: the same within one instance.
+pub fn choose_within(
+    h: index::Cache,
+    ws: &[u64; 928],
+    t: &[sampleinfo::Sample],
+    instance: u64,
+    rc: readcondition::ReadCondition,
+    out: &mut [u64],
+) -> select::Chosen
+    ensures { λ r. ⌜ ((m : Model) → Good m → Lies m h (now (ws .entry)) (now (t .entry)) → Told (step m (Call.look (some instance) rc (length (now (out .entry)) / 2)) .answer) r (now (out .entry)) (now (out .exit))) ⌝ }
+    ensures { λ r. ⌜ ((length (now (t .entry)) ≡ 256 → ⊥) → (r ≡ notATable) × (now (out .exit) ≡ now (out .entry))) ⌝ }
+{
+    choose(h, ws, t, select::Within::Instance(instance), rc, out)
 }

@@ -1,5 +1,5 @@
 -- Records in a row, each answered on what the one before left: what is printed is the printout.
-use mathlib.Core.Path.{_≡_, refl}
+use mathlib.Core.Path.{_≡_, refl, sym, _∙_}
 use mathlib.Core.List.{List, [], _∷_, _++_}
 use mathlib.Core.Option.{Option}
 use Prim.Native.Nat.{ℕ, _+_, _<_}
@@ -10,7 +10,7 @@ use Rattle.sampleinfo.specs.declared.Sample.{Sample}
 use Rattle.model.specs.Model.{Model}
 use Rattle.printing.specs.Printout.{printed}
 use Rattle.printing.specs.Lines.{Laid}
-use Rattle.session.specs.Session.{turn, printout}
+use Rattle.session.specs.Session.{Turn, turn, printout}
 use Rattle.session.specs.Stands.{Stands, Responds}
 use Rattle.session.specs.declared.Session.{Session}
 use Rattle.session.specs.declared.Answered.{Answered}
@@ -31,3 +31,7 @@ session-prints done st l = refl
 session-prints (then {recs = recs} {out = out} rec was line r h f k) st l =
     let x : Responds (turn st rec) r _ _ was line = f st h l in
     rw (laid-first was (printed (turn st rec .answer)) line (r .size) (x .lines), session-prints k (turn st rec .then) (x .stands)) refl
+
+-- two outcomes that meet the contract of `respond` print the same
+pub one-answer : (u : Turn) (r r′ : Answered) (ws ws′ : List ℕ) (t t′ : List Sample) (was line line′ : List ℕ) → Responds u r ws t was line → Responds u r′ ws′ t′ was line′ → (line ≡ line′) × (r .size ≡ r′ .size)
+one-answer u r r′ ws ws′ t t′ was line line′ x y = (x .lines .bytes ∙ sym (y .lines .bytes), x .lines .place ∙ sym (y .lines .place))
