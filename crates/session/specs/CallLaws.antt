@@ -57,9 +57,9 @@ use Rattle.answers.specs.Says.{Says}
 use Rattle.answers.specs.declared.Reply.{Reply}
 use Rattle.session.specs.Session.{answering, refuse}
 use Rattle.session.specs.Stands.{Ready, Unready, Answers}
-use Rattle.session.specs.Steps.{said, sessionOf, setUpDone, replySaid, evictedSaid, addSaid, addDone, chooseSaid, listSaid, listDone, nextSaid}
-use Rattle.session.specs.declared.Session.{Session}
-use Rattle.session.specs.declared.Replied.{Replied}
+use Rattle.replies.specs.Steps.{said, sessionOf, setUpDone, replySaid, evictedSaid, addSaid, addDone, chooseSaid, listSaid, listDone, nextSaid}
+use Rattle.replies.specs.declared.Session.{Session}
+use Rattle.replies.specs.declared.Replied.{Replied}
 
 -- a cache that was ready is ready after a call
 ready-made : (m : Model) (s s′ : Session) (ws after : List ℕ) (t then : List Sample) (c : Call) → Ready m s ws t → SmallCall c → s′ .ready ≡ true → Lies (step m c .then) (s′ .head) after then

@@ -11,8 +11,8 @@ use Rattle.printing.specs.Lines.{Laid}
 use Rattle.answers.specs.Says.{Says}
 use Rattle.session.specs.Session.{turn}
 use Rattle.session.specs.Stands.{Stands, Answers, Responds}
-use Rattle.session.specs.declared.Session.{Session}
-use Rattle.session.specs.declared.Replied.{Replied}
+use Rattle.replies.specs.declared.Session.{Session}
+use Rattle.replies.specs.declared.Replied.{Replied}
 use Rattle.session.specs.declared.Answered.{Answered}
 
 pub responds : (s : Session) (ws after : List ℕ) (t then : List Sample) (rec ps is was line : List ℕ) (r : Replied) (x : Answered)

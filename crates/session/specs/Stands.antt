@@ -14,8 +14,8 @@ use Rattle.printing.specs.Printout.{printed}
 use Rattle.printing.specs.Lines.{Laid}
 use Rattle.answers.specs.Says.{Says}
 use Rattle.session.specs.Session.{Turn}
-use Rattle.session.specs.declared.Session.{Session}
-use Rattle.session.specs.declared.Replied.{Replied}
+use Rattle.replies.specs.declared.Session.{Session}
+use Rattle.replies.specs.declared.Replied.{Replied}
 use Rattle.session.specs.declared.Answered.{Answered}
 
 -- a cache that only the calls have changed, as it lies in memory

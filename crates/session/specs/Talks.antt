@@ -12,7 +12,7 @@ use Rattle.printing.specs.Printout.{printed}
 use Rattle.printing.specs.Lines.{Laid}
 use Rattle.session.specs.Session.{Turn, turn, printout}
 use Rattle.session.specs.Stands.{Stands, Responds}
-use Rattle.session.specs.declared.Session.{Session}
+use Rattle.replies.specs.declared.Session.{Session}
 use Rattle.session.specs.declared.Answered.{Answered}
 
 -- the records, each with the contract of `respond` that it was answered under, and the bytes that were printed: as many of the lent bytes as it answered

@@ -21,9 +21,9 @@ use Rattle.records.specs.declared.Op.the-variants as op
 use Rattle.records.specs.declared.Request.{Request}
 use Rattle.session.specs.Session.{answering, turnOf, turn, refuse}
 use Rattle.session.specs.Stands.{Stands, Answers}
-use Rattle.session.specs.Steps.{declinedWith, isSetUp, same, refusalBy}
-use Rattle.session.specs.declared.Session.{Session}
-use Rattle.session.specs.declared.Replied.{Replied}
+use Rattle.replies.specs.Steps.{declinedWith, isSetUp, same, refusalBy}
+use Rattle.replies.specs.declared.Session.{Session}
+use Rattle.replies.specs.declared.Replied.{Replied}
 
 -- ---- before the cache is asked
 

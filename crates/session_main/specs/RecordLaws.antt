@@ -10,7 +10,7 @@ use Rattle.sampleinfo.specs.declared.Sample.{Sample}
 use Rattle.model.specs.Model.{Model}
 use Rattle.session.specs.Session.{turn}
 use Rattle.session.specs.Stands.{Stands, Standing, Responds}
-use Rattle.session.specs.declared.Session.{Session}
+use Rattle.replies.specs.declared.Session.{Session}
 use Rattle.session.specs.declared.Answered.{Answered}
 
 pub part-long : (l : List ℕ) (k : ℕ) → (k ≤ length l) × (k < 65536) → k ≡ length (take k l)

@@ -5,7 +5,7 @@ ghost use Prim.Native.Nat.{_≤_, _<_};
 ghost use lib.ListN.{length};
 ghost use Rattle.session.specs.Stands.{Standing};
 ghost use Rattle.session_main.specs.FrontLaws.{Most};
-use session::Session;
+use replies::Session;
 
 // A record that is cut off, or a wrong version.
 fn cut_off() {

@@ -1,10 +1,10 @@
 -- Machine-made by `python3 lent.py session answer`: do not edit; make it again when the source changes.
+use Rattle.replies.proofs.Replied
+use Rattle.replies.proofs.Replied.Laws
+use Rattle.replies.proofs.Session
+use Rattle.replies.proofs.Session.Laws as Laws'
 use Rattle.sampleinfo.proofs.Short as L
 use Rattle.sampleinfo.proofs.Slot as S
-use Rattle.session.proofs.Replied
-use Rattle.session.proofs.Replied.Laws
-use Rattle.session.proofs.Session
-use Rattle.session.proofs.Session.Laws as Laws'
 use borrow.Fn.Kinds
 use borrow.Kind.MutSlice
 use borrow.Kind.ShrSlice

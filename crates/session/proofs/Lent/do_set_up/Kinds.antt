@@ -1,12 +1,12 @@
 -- Machine-made by `python3 lent.py session do_set_up`: do not edit; make it again when the source changes.
 use Rattle.records.proofs.SetUp
 use Rattle.records.proofs.SetUp.Laws
+use Rattle.replies.proofs.Replied
+use Rattle.replies.proofs.Replied.Laws as Laws'
+use Rattle.replies.proofs.Session
+use Rattle.replies.proofs.Session.Laws as Laws''
 use Rattle.sampleinfo.proofs.Short as L
 use Rattle.sampleinfo.proofs.Slot as S
-use Rattle.session.proofs.Replied
-use Rattle.session.proofs.Replied.Laws as Laws'
-use Rattle.session.proofs.Session
-use Rattle.session.proofs.Session.Laws as Laws''
 use borrow.Fn.Kinds
 use borrow.Kind.MutSlice
 use denote.Array

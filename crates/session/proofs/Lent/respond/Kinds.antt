@@ -1,10 +1,10 @@
 -- Machine-made by `python3 lent.py session respond`: do not edit; make it again when the source changes.
+use Rattle.replies.proofs.Session
+use Rattle.replies.proofs.Session.Laws
 use Rattle.sampleinfo.proofs.Short as L
 use Rattle.sampleinfo.proofs.Slot as S
 use Rattle.session.proofs.Answered
-use Rattle.session.proofs.Answered.Laws
-use Rattle.session.proofs.Session
-use Rattle.session.proofs.Session.Laws as Laws'
+use Rattle.session.proofs.Answered.Laws as Laws'
 use borrow.Fn.Kinds
 use borrow.Kind.MutSlice
 use borrow.Kind.ShrSlice
@@ -13,8 +13,8 @@ use mathlib.Core.List
 use mathlib.Core.List.{[], _∷_}
 
 abbrev pub ps : List.List (Kinds.PK 7)
-ps = (L.p Session.the-type Laws'.the-laws Laws'.the-copy Laws'.the-plain) ∷ Kinds.pMut (Array.Array L.u64 928) 0 tt ∷ MutSlice.pMutS S.row 1 tt ∷ ShrSlice.pShrS L.u8 2 tt ∷ Kinds.pMut
+ps = (L.p Session.the-type Laws.the-laws Laws.the-copy Laws.the-plain) ∷ Kinds.pMut (Array.Array L.u64 928) 0 tt ∷ MutSlice.pMutS S.row 1 tt ∷ ShrSlice.pShrS L.u8 2 tt ∷ Kinds.pMut
     (Array.Array L.u64 8190) 3 tt ∷ Kinds.pMut (Array.Array L.u64 512) 4 tt ∷ Kinds.pMut (Array.Array L.u64 6912) 5 tt ∷ Kinds.pMut (Array.Array L.u8 66048) 6 tt ∷ []
 
 abbrev pub r : Kinds.RK 7
-r = L.r Answered.the-type Laws.the-laws Laws.the-copy Laws.the-plain
+r = L.r Answered.the-type Laws'.the-laws Laws'.the-copy Laws'.the-plain

@@ -10,14 +10,14 @@ use Rattle.records.proofs.Request
 use Rattle.records.proofs.Request.Laws as Request′
 use Rattle.records.proofs.SetUp
 use Rattle.records.proofs.SetUp.Laws as SetUp′
+use Rattle.replies.proofs.Replied
+use Rattle.replies.proofs.Replied.Laws as Replied′
+use Rattle.replies.proofs.Session
+use Rattle.replies.proofs.Session.Laws as Session′
 use Rattle.sampleinfo.proofs.Short as L
 use Rattle.sampleinfo.proofs.Slot as S
 use Rattle.select.proofs.Within
 use Rattle.select.proofs.Within.Laws as Within′
-use Rattle.session.proofs.Replied
-use Rattle.session.proofs.Replied.Laws as Replied′
-use Rattle.session.proofs.Session
-use Rattle.session.proofs.Session.Laws as Session′
 use borrow.Author.Called
 use borrow.Author.Tests
 use borrow.Enum.Known
@@ -467,13 +467,13 @@ abbrev b0 : Y.Body
 b0 = Y.call "records::decode" (Y.copy (Y.place 4 []) ∷ []) (Y.place 8 [])
 
 abbrev b1 : Y.Body
-b1 = Y.call "session::refusal" (Y.copy (Y.place 1 []) ∷ Y.copy (Y.place 8 []) ∷ []) (Y.place 9 [])
+b1 = Y.call "replies::refusal" (Y.copy (Y.place 1 []) ∷ Y.copy (Y.place 8 []) ∷ []) (Y.place 9 [])
 
 abbrev b2 : Y.Body
 b2 = Y.assign (Y.place 19 []) (Y.op2 Y.ne (Y.copy (Y.place 9 [])) (Y.int Y.w64 0))
 
 abbrev b3 : Y.Body
-b3 = Y.call "session::declined" (Y.copy (Y.place 1 []) ∷ Y.copy (Y.place 9 []) ∷ []) (Y.place 0 [])
+b3 = Y.call "replies::declined" (Y.copy (Y.place 1 []) ∷ Y.copy (Y.place 9 []) ∷ []) (Y.place 0 [])
 
 abbrev b4 : Y.Body
 b4 = Y.return
@@ -744,7 +744,7 @@ abbrev b91 : Y.Body
 b91 = Y.seq b87 b90
 
 abbrev b92 : Y.Body
-b92 = Y.call "session::declined" (Y.copy (Y.place 1 []) ∷ Y.int Y.w64 1 ∷ []) (Y.place 20 [])
+b92 = Y.call "replies::declined" (Y.copy (Y.place 1 []) ∷ Y.int Y.w64 1 ∷ []) (Y.place 20 [])
 
 abbrev b93 : Y.Body
 b93 = Y.switch (Y.copy (Y.place 10 (Y.variant 0 ∷ Y.field 0 ∷ []))) (Y.arm (0 ∷ []) b18 (Y.arm (1 ∷ []) b27 (Y.arm (2 ∷ []) b32 (Y.arm (3 ∷ []) b45 (Y.arm (4 ∷ []) b60 (Y.arm (5 ∷ []) b73
@@ -2368,8 +2368,8 @@ module _ (claims· : Claims) where
     module _ (M : Type 1) where
       abbrev pub Closed : Type 2
       Closed = (𝓤 : URA.URA M) (H : Wp.Heap 𝓤) (A : Atoms.Atoms 𝓤) (W : Kit.Given 𝓤 H A) (𝓣 : Wp.Tables 𝓤 H) (known0 : Plain.Known 𝓤 H A W 𝓣 1 ps·0 r·0 (claims· .0) (claims· .1)
-          "records::decode") (known1 : Plain.Known 𝓤 H A W 𝓣 0 ps·1 r·1 (claims· .2) (claims· .3) "session::refusal") (known2 : Plain.Known 𝓤 H A W 𝓣 0 ps·2 r·2 (claims· .4) (claims· .5)
-          "session::declined") (known3 : Plain.Known 𝓤 H A W 𝓣 2 ps·3 r·3 (claims· .6) (claims· .7) "session::do_set_up") (known4 : Plain.Known 𝓤 H A W 𝓣 2 ps·4 r·4 (claims· .8) (claims·
+          "records::decode") (known1 : Plain.Known 𝓤 H A W 𝓣 0 ps·1 r·1 (claims· .2) (claims· .3) "replies::refusal") (known2 : Plain.Known 𝓤 H A W 𝓣 0 ps·2 r·2 (claims· .4) (claims· .5)
+          "replies::declined") (known3 : Plain.Known 𝓤 H A W 𝓣 2 ps·3 r·3 (claims· .6) (claims· .7) "session::do_set_up") (known4 : Plain.Known 𝓤 H A W 𝓣 2 ps·4 r·4 (claims· .8) (claims·
           .9) "session::do_add") (known5 : Plain.Known 𝓤 H A W 𝓣 1 ps·5 r·5 (claims· .10) (claims· .11) "session::do_no_writers") (known6 : Plain.Known 𝓤 H A W 𝓣 3 ps·6 r·6 (claims· .12)
           (claims· .13) "session::do_choose") (known7 : Plain.Known 𝓤 H A W 𝓣 5 ps·7 r·7 (claims· .14) (claims· .15) "session::do_list") (known8 : Plain.Known 𝓤 H A W 𝓣 1 ps·8 r·8 (claims·
           .16) (claims· .17) "session::do_next_key") → Statement.Triple 𝓤 (Wp.WpFn 𝓤 H (𝓣 .C) (𝓣 .Λ) (Function.fnOf 6 ps r xs m hs body)) (Function.plainOf 𝓤 H A 6 ps r Pre· Post·)
@@ -2772,8 +2772,8 @@ module _ (claims· : Claims) where
 
       module _ {M : Type 1} (𝓤 : URA.URA M) (H : Wp.Heap 𝓤) (A : Atoms.Atoms 𝓤) (W : Kit.Given 𝓤 H A) (𝓣 : Wp.Tables 𝓤 H) where
         abbrev Knowns : Type 1
-        Knowns = Plain.Known 𝓤 H A W 𝓣 1 ps·0 r·0 (claims· .0) (claims· .1) "records::decode" × Plain.Known 𝓤 H A W 𝓣 0 ps·1 r·1 (claims· .2) (claims· .3) "session::refusal" × Plain.Known 𝓤
-            H A W 𝓣 0 ps·2 r·2 (claims· .4) (claims· .5) "session::declined" × Plain.Known 𝓤 H A W 𝓣 2 ps·3 r·3 (claims· .6) (claims· .7) "session::do_set_up" × Plain.Known 𝓤 H A W 𝓣 2 ps·4
+        Knowns = Plain.Known 𝓤 H A W 𝓣 1 ps·0 r·0 (claims· .0) (claims· .1) "records::decode" × Plain.Known 𝓤 H A W 𝓣 0 ps·1 r·1 (claims· .2) (claims· .3) "replies::refusal" × Plain.Known 𝓤
+            H A W 𝓣 0 ps·2 r·2 (claims· .4) (claims· .5) "replies::declined" × Plain.Known 𝓤 H A W 𝓣 2 ps·3 r·3 (claims· .6) (claims· .7) "session::do_set_up" × Plain.Known 𝓤 H A W 𝓣 2 ps·4
             r·4 (claims· .8) (claims· .9) "session::do_add" × Plain.Known 𝓤 H A W 𝓣 1 ps·5 r·5 (claims· .10) (claims· .11) "session::do_no_writers" × Plain.Known 𝓤 H A W 𝓣 3 ps·6 r·6
             (claims· .12) (claims· .13) "session::do_choose" × Plain.Known 𝓤 H A W 𝓣 5 ps·7 r·7 (claims· .14) (claims· .15) "session::do_list" × Plain.Known 𝓤 H A W 𝓣 1 ps·8 r·8 (claims·
             .16) (claims· .17) "session::do_next_key"
@@ -4198,7 +4198,7 @@ module _ (claims· : Claims) where
               Session.the-type) Session′.mir refl)) d1
 
           d3 : Typed.Typed 𝓤 H A 𝓣 E G8 b5 Δ1 (at3 bs)
-          d3 = Typed.s-seq 𝓤 H A W 𝓣 E G8 G9 b3 b4 Δ1 (Typed.both (s6 bs)) (at2 bs) (Plain.t-call-plain 𝓤 H A W 𝓣 0 ps·2 r·2 (claims· .4) (claims· .5) "session::declined" (known .2) E (λ
+          d3 = Typed.s-seq 𝓤 H A W 𝓣 E G8 G9 b3 b4 Δ1 (Typed.both (s6 bs)) (at2 bs) (Plain.t-call-plain 𝓤 H A W 𝓣 0 ps·2 r·2 (claims· .4) (claims· .5) "replies::declined" (known .2) E (λ
               pos β. β) G8 (record { pos = 1; st = []; d = 0; at = λ x. x }, (Num.vAt 9 λ x. x, tt)) 0 [] (Call.sub-id 𝓤 H A W (G8 .slots)) (
                 (
                   Yields.yields-copy 𝓤 H A W (λ ρ. Unit)
@@ -8210,7 +8210,7 @@ module _ (claims· : Claims) where
 
           d103 : Typed.Typed 𝓤 H A 𝓣 E G196 b92 Δ2 (at103 bs)
           d103 = Typed.s-typed 𝓤 H A W 𝓣 E G196 b92 Δ2 (λ Ψ. Typed.both (s193 bs) (Typed.pass T197 T198 (s194 bs) Ψ)) tt (Typed.g-post 𝓤 H A W 𝓣 E G196 G197 G198 b92 (Typed.both (s193 bs))
-              (Typed.pass T197 T198 (s194 bs)) (Plain.t-call-plain 𝓤 H A W 𝓣 0 ps·2 r·2 (claims· .4) (claims· .5) "session::declined" (known .2) E (λ pos β. β) G196 (
+              (Typed.pass T197 T198 (s194 bs)) (Plain.t-call-plain 𝓤 H A W 𝓣 0 ps·2 r·2 (claims· .4) (claims· .5) "replies::declined" (known .2) E (λ pos β. β) G196 (
                 record {
                   pos = 1;
                   st =
@@ -8339,7 +8339,7 @@ module _ (claims· : Claims) where
               (Scalar.holds-sc 𝓤 H A W Row.sBool) refl (λ u. refl) λ u. tt) d116
 
           d118 : Typed.Typed 𝓤 H A 𝓣 E G3 b102 Δ0 (at118 bs)
-          d118 = Typed.s-seq 𝓤 H A W 𝓣 E G3 G4 b1 b101 Δ0 (Typed.both (s2 bs)) (at117 bs) (Plain.t-call-plain 𝓤 H A W 𝓣 0 ps·1 r·1 (claims· .2) (claims· .3) "session::refusal" (known .1) E
+          d118 = Typed.s-seq 𝓤 H A W 𝓣 E G3 G4 b1 b101 Δ0 (Typed.both (s2 bs)) (at117 bs) (Plain.t-call-plain 𝓤 H A W 𝓣 0 ps·1 r·1 (claims· .2) (claims· .3) "replies::refusal" (known .1) E
               (λ pos β. β) G3 (record { pos = 1; st = []; d = 0; at = λ x. x }, (record { pos = 8; st = []; d = 0; at = λ x. x }, tt)) 9 [] (Call.sub-id 𝓤 H A W (G3 .slots)) (
                 (
                   Yields.yields-copy 𝓤 H A W (λ ρ. Unit) (Declared'.row Session.the-type) refl (Copies.cStruct Session.the-type Session′.the-laws Session′.the-copy .copy 𝓤 H A W) r52 (λ x. x) (λ
@@ -11269,8 +11269,8 @@ module _ (claims· : Claims) where
           }
 
         module _ {M : Type 1} (𝓤 : URA.URA M) (H : Wp.Heap 𝓤) (A : Atoms.Atoms 𝓤) (W : Kit.Given 𝓤 H A) (𝓣 : Wp.Tables 𝓤 H) (known0 : Plain.Known 𝓤 H A W 𝓣 1 ps·0 r·0 (claims· .0) (claims·
-            .1) "records::decode") (known1 : Plain.Known 𝓤 H A W 𝓣 0 ps·1 r·1 (claims· .2) (claims· .3) "session::refusal") (known2 : Plain.Known 𝓤 H A W 𝓣 0 ps·2 r·2 (claims· .4) (claims·
-            .5) "session::declined") (known3 : Plain.Known 𝓤 H A W 𝓣 2 ps·3 r·3 (claims· .6) (claims· .7) "session::do_set_up") (known4 : Plain.Known 𝓤 H A W 𝓣 2 ps·4 r·4 (claims· .8)
+            .1) "records::decode") (known1 : Plain.Known 𝓤 H A W 𝓣 0 ps·1 r·1 (claims· .2) (claims· .3) "replies::refusal") (known2 : Plain.Known 𝓤 H A W 𝓣 0 ps·2 r·2 (claims· .4) (claims·
+            .5) "replies::declined") (known3 : Plain.Known 𝓤 H A W 𝓣 2 ps·3 r·3 (claims· .6) (claims· .7) "session::do_set_up") (known4 : Plain.Known 𝓤 H A W 𝓣 2 ps·4 r·4 (claims· .8)
             (claims· .9) "session::do_add") (known5 : Plain.Known 𝓤 H A W 𝓣 1 ps·5 r·5 (claims· .10) (claims· .11) "session::do_no_writers") (known6 : Plain.Known 𝓤 H A W 𝓣 3 ps·6 r·6
             (claims· .12) (claims· .13) "session::do_choose") (known7 : Plain.Known 𝓤 H A W 𝓣 5 ps·7 r·7 (claims· .14) (claims· .15) "session::do_list") (known8 : Plain.Known 𝓤 H A W 𝓣 1
             ps·8 r·8 (claims· .16) (claims· .17) "session::do_next_key") where

@@ -6,12 +6,12 @@ use Rattle.index.proofs.Cache
 use Rattle.index.proofs.Cache.Laws as Cache′
 use Rattle.records.proofs.Arrival
 use Rattle.records.proofs.Arrival.Laws as Arrival′
+use Rattle.replies.proofs.Replied
+use Rattle.replies.proofs.Replied.Laws as Replied′
+use Rattle.replies.proofs.Session
+use Rattle.replies.proofs.Session.Laws as Session′
 use Rattle.sampleinfo.proofs.Short as L
 use Rattle.sampleinfo.proofs.Slot as S
-use Rattle.session.proofs.Replied
-use Rattle.session.proofs.Replied.Laws as Replied′
-use Rattle.session.proofs.Session
-use Rattle.session.proofs.Session.Laws as Session′
 use borrow.Author.Called
 use borrow.Fn.Any
 use borrow.Fn.Call
@@ -188,7 +188,7 @@ abbrev b0 : Y.Body
 b0 = Y.assign (Y.place 6 []) (Y.rvOpd (Y.copy (Y.place 1 (Y.field 0 ∷ []))))
 
 abbrev b1 : Y.Body
-b1 = Y.call "session::bounded" (Y.copy (Y.place 4 (Y.field 4 ∷ [])) ∷ []) (Y.place 7 [])
+b1 = Y.call "replies::bounded" (Y.copy (Y.place 4 (Y.field 4 ∷ [])) ∷ []) (Y.place 7 [])
 
 abbrev b2 : Y.Body
 b2 = Y.assign (Y.place 9 []) (Y.addrOf (Y.place 2 (Y.deref y4 ∷ [])))
@@ -204,7 +204,7 @@ b5 = Y.call "datasample_cache::add" (Y.copy (Y.place 6 []) ∷ Y.copy (Y.place 9
     (Y.field 1 ∷ [])) ∷ Y.copy (Y.place 4 (Y.field 2 ∷ [])) ∷ Y.copy (Y.place 4 (Y.field 3 ∷ [])) ∷ Y.copy (Y.place 7 []) ∷ []) (Y.place 8 [])
 
 abbrev b6 : Y.Body
-b6 = Y.call "session::add_done" (Y.copy (Y.place 8 []) ∷ []) (Y.place 0 [])
+b6 = Y.call "replies::add_done" (Y.copy (Y.place 8 []) ∷ []) (Y.place 0 [])
 
 abbrev b7 : Y.Body
 b7 = Y.return
@@ -419,8 +419,8 @@ module _ (claims· : Claims) where
     module _ (M : Type 1) where
       abbrev pub Closed : Type 2
       Closed = (𝓤 : URA.URA M) (H : Wp.Heap 𝓤) (A : Atoms.Atoms 𝓤) (W : Kit.Given 𝓤 H A) (𝓣 : Wp.Tables 𝓤 H) (known0 : Plain.Known 𝓤 H A W 𝓣 0 ps·0 r·0 (claims· .0) (claims· .1)
-          "session::bounded") (known1 : Plain.Known 𝓤 H A W 𝓣 2 ps·1 r·1 (claims· .2) (claims· .3) "datasample_cache::add") (known2 : Plain.Known 𝓤 H A W 𝓣 0 ps·2 r·2 (claims· .4) (claims·
-          .5) "session::add_done") → Statement.Triple 𝓤 (Wp.WpFn 𝓤 H (𝓣 .C) (𝓣 .Λ) (Function.fnOf 2 ps r xs m hs body)) (Function.plainOf 𝓤 H A 2 ps r Pre· Post·)
+          "replies::bounded") (known1 : Plain.Known 𝓤 H A W 𝓣 2 ps·1 r·1 (claims· .2) (claims· .3) "datasample_cache::add") (known2 : Plain.Known 𝓤 H A W 𝓣 0 ps·2 r·2 (claims· .4) (claims·
+          .5) "replies::add_done") → Statement.Triple 𝓤 (Wp.WpFn 𝓤 H (𝓣 .C) (𝓣 .Λ) (Function.fnOf 2 ps r xs m hs body)) (Function.plainOf 𝓤 H A 2 ps r Pre· Post·)
 
     module _ where
       abbrev at0 : (bs : List.List Nat.ℕ) → Typed.TF T22 O0
@@ -494,8 +494,8 @@ module _ (claims· : Claims) where
 
       module _ {M : Type 1} (𝓤 : URA.URA M) (H : Wp.Heap 𝓤) (A : Atoms.Atoms 𝓤) (W : Kit.Given 𝓤 H A) (𝓣 : Wp.Tables 𝓤 H) where
         abbrev Knowns : Type 1
-        Knowns = Plain.Known 𝓤 H A W 𝓣 0 ps·0 r·0 (claims· .0) (claims· .1) "session::bounded" × Plain.Known 𝓤 H A W 𝓣 2 ps·1 r·1 (claims· .2) (claims· .3) "datasample_cache::add" ×
-            Plain.Known 𝓤 H A W 𝓣 0 ps·2 r·2 (claims· .4) (claims· .5) "session::add_done"
+        Knowns = Plain.Known 𝓤 H A W 𝓣 0 ps·0 r·0 (claims· .0) (claims· .1) "replies::bounded" × Plain.Known 𝓤 H A W 𝓣 2 ps·1 r·1 (claims· .2) (claims· .3) "datasample_cache::add" ×
+            Plain.Known 𝓤 H A W 𝓣 0 ps·2 r·2 (claims· .4) (claims· .5) "replies::add_done"
 
       module _ (κs : Lifetimes.Lfts 2) (qs : Lifetimes.Shares 2) where
         abbrev z0 : List.List Row.Life
@@ -626,7 +626,7 @@ module _ (claims· : Claims) where
           d2 = Typed.g-pre 𝓤 H A W 𝓣 E G20 G21 b7 Δ0 (Typed.pass T20 T21 (s19 bs)) (at1 bs) (Scalar.g-room 𝓤 H A W E G20 7 (Y.tyInt Y.w32) (Scalar.room-sc 𝓤 H A W (Row.sInt Y.w32))) d1
 
           d3 : Typed.Typed 𝓤 H A 𝓣 E G19 b8 Δ0 (at3 bs)
-          d3 = Typed.s-seq 𝓤 H A W 𝓣 E G19 G20 b6 b7 Δ0 (Typed.both (s18 bs)) (at2 bs) (Plain.t-call-plain 𝓤 H A W 𝓣 0 ps·2 r·2 (claims· .4) (claims· .5) "session::add_done" (known .2) E (λ
+          d3 = Typed.s-seq 𝓤 H A W 𝓣 E G19 G20 b6 b7 Δ0 (Typed.both (s18 bs)) (at2 bs) (Plain.t-call-plain 𝓤 H A W 𝓣 0 ps·2 r·2 (claims· .4) (claims· .5) "replies::add_done" (known .2) E (λ
               pos β. β) G19 (record { pos = 8; st = []; d = 0; at = λ x. x }, tt) 0 [] (Call.sub-id 𝓤 H A W (G19 .slots)) (
                 (
                   Yields.yields-copy 𝓤 H A W (λ ρ. Unit) (Declared.row
@@ -763,7 +763,7 @@ module _ (claims· : Claims) where
           d18 = Typed.g-pre 𝓤 H A W 𝓣 E G4 G5 b12 Δ0 (λ Ψ. Ψ) (at17 bs) (Lifetime.g-begin 𝓤 H A W E G4 2 (tt, (tt, (tt, (tt, (tt, (tt, (tt, (tt, (tt, (tt, (tt, (tt, tt))))))))))))) d17
 
           d19 : Typed.Typed 𝓤 H A 𝓣 E G3 b13 Δ0 (at19 bs)
-          d19 = Typed.s-seq 𝓤 H A W 𝓣 E G3 G4 b1 b12 Δ0 (Typed.both (s2 bs)) (at18 bs) (Plain.t-call-plain 𝓤 H A W 𝓣 0 ps·0 r·0 (claims· .0) (claims· .1) "session::bounded" (known .0) E (λ
+          d19 = Typed.s-seq 𝓤 H A W 𝓣 E G3 G4 b1 b12 Δ0 (Typed.both (s2 bs)) (at18 bs) (Plain.t-call-plain 𝓤 H A W 𝓣 0 ps·0 r·0 (claims· .0) (claims· .1) "replies::bounded" (known .0) E (λ
               pos β. β) G3 (Num.vFld 4 (Y.field 4 ∷ []) 28 λ x. Arrival.struct .as-values x .1 .1 .1 .1 .0, tt) 7 [] (Call.sub-id 𝓤 H A W (G3 .slots)) (
                 (
                   Reads.reads-field 𝓤 H A W
@@ -1160,7 +1160,7 @@ module _ (claims· : Claims) where
           }
 
         module _ {M : Type 1} (𝓤 : URA.URA M) (H : Wp.Heap 𝓤) (A : Atoms.Atoms 𝓤) (W : Kit.Given 𝓤 H A) (𝓣 : Wp.Tables 𝓤 H) (known0 : Plain.Known 𝓤 H A W 𝓣 0 ps·0 r·0 (claims· .0) (claims·
-            .1) "session::bounded") (known1 : Plain.Known 𝓤 H A W 𝓣 2 ps·1 r·1 (claims· .2) (claims· .3) "datasample_cache::add") (known2 : Plain.Known 𝓤 H A W 𝓣 0 ps·2 r·2 (claims· .4)
-            (claims· .5) "session::add_done") where
+            .1) "replies::bounded") (known1 : Plain.Known 𝓤 H A W 𝓣 2 ps·1 r·1 (claims· .2) (claims· .3) "datasample_cache::add") (known2 : Plain.Known 𝓤 H A W 𝓣 0 ps·2 r·2 (claims· .4)
+            (claims· .5) "replies::add_done") where
           pub spec : Statement.Triple 𝓤 (Wp.WpFn 𝓤 H (𝓣 .C) (𝓣 .Λ) (Function.fnOf 2 ps r xs m hs body)) (Function.plainOf 𝓤 H A 2 ps r Pre· Post·)
           spec = Plain.t-fn-plain 𝓤 H A W 𝓣 2 ps r xs m hs body (λ κs qs bs. Φ bs) (λ κs qs bs bd. typed κs qs 𝓤 H A W 𝓣 (known0, known1, known2) bs bd) Pre· Post· asked

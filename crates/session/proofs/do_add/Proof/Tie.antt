@@ -2,14 +2,14 @@
 use Rattle.datasample_cache.proofs.Lent.add.Reads
 use Rattle.datasample_cache.proofs.add.Met
 use Rattle.datasample_cache.proofs.add.Symbol
+use Rattle.replies.proofs.add_done.Met as Met'
+use Rattle.replies.proofs.add_done.Reads as Reads'
+use Rattle.replies.proofs.add_done.Symbol as Symbol'
+use Rattle.replies.proofs.bounded.Met as Met''
+use Rattle.replies.proofs.bounded.Reads as Reads''
+use Rattle.replies.proofs.bounded.Symbol as Symbol''
 use Rattle.session.proofs.Lent.do_add.Kinds
 use Rattle.session.proofs.Lent.do_add.Reads as Reads'3
-use Rattle.session.proofs.add_done.Met as Met'
-use Rattle.session.proofs.add_done.Reads as Reads'
-use Rattle.session.proofs.add_done.Symbol as Symbol'
-use Rattle.session.proofs.bounded.Met as Met''
-use Rattle.session.proofs.bounded.Reads as Reads''
-use Rattle.session.proofs.bounded.Symbol as Symbol''
 use Rattle.session.proofs.do_add.Code
 use Rattle.session.proofs.do_add.Key
 use Rattle.session.proofs.do_add.Proof.Lts
@@ -83,7 +83,7 @@ module _ {M : Type 1} where
         𝓜 = 𝓜;
         𝓖 = 𝓖;
         𝓡 = 𝓡;
-      } Code.env Symbol''.name Symbol''.routine Code.calls-session·bounded (Met''.met 𝓤 H 𝓜 𝓖 𝓡)) (Reads.known record {
+      } Code.env Symbol''.name Symbol''.routine Code.calls-replies·bounded (Met''.met 𝓤 H 𝓜 𝓖 𝓡)) (Reads.known record {
         M = M;
         𝓤 = 𝓤;
         H = H;
@@ -92,4 +92,4 @@ module _ {M : Type 1} where
         𝓡 =
             𝓡;
       } Code.env Symbol.name Symbol.routine Code.calls-datasample-cache·add (Met.met 𝓤 H 𝓜 𝓖 𝓡)) (Reads'.known record { M = M; 𝓤 = 𝓤; H = H; 𝓜 = 𝓜; 𝓖 = 𝓖; 𝓡 = 𝓡 } Code.env Symbol'.name
-      Symbol'.routine Code.calls-session·add-done (Met'.met 𝓤 H 𝓜 𝓖 𝓡))
+      Symbol'.routine Code.calls-replies·add-done (Met'.met 𝓤 H 𝓜 𝓖 𝓡))

@@ -6,16 +6,16 @@ use Rattle.index.proofs.Cache
 use Rattle.index.proofs.Cache.Laws as Cache′
 use Rattle.readcondition.proofs.ReadCondition
 use Rattle.readcondition.proofs.ReadCondition.Laws as ReadCondition′
+use Rattle.replies.proofs.Replied
+use Rattle.replies.proofs.Replied.Laws as Replied′
+use Rattle.replies.proofs.Session
+use Rattle.replies.proofs.Session.Laws as Session′
 use Rattle.sampleinfo.proofs.Short as L
 use Rattle.sampleinfo.proofs.Slot as S
 use Rattle.select.proofs.Chosen
 use Rattle.select.proofs.Chosen.Laws as Chosen′
 use Rattle.select.proofs.Within
 use Rattle.select.proofs.Within.Laws as Within′
-use Rattle.session.proofs.Replied
-use Rattle.session.proofs.Replied.Laws as Replied′
-use Rattle.session.proofs.Session
-use Rattle.session.proofs.Session.Laws as Session′
 use borrow.Author.Called
 use borrow.Enum.Make
 use borrow.Enum.Whole
@@ -206,7 +206,7 @@ b3 = Y.call "datasample_select::choose" (Y.copy (Y.place 7 []) ∷ Y.copy (Y.pla
     (Y.place 8 [])
 
 abbrev b4 : Y.Body
-b4 = Y.call "session::choose_reply" (Y.copy (Y.place 8 []) ∷ []) (Y.place 11 [])
+b4 = Y.call "replies::choose_reply" (Y.copy (Y.place 8 []) ∷ []) (Y.place 11 [])
 
 abbrev b5 : Y.Body
 b5 = Y.assign (Y.place 0 []) (Y.aggregate (Y.copy (Y.place 1 []) ∷ Y.copy (Y.place 11 []) ∷ []))
@@ -415,7 +415,7 @@ module _ (claims· : Claims) where
     module _ (M : Type 1) where
       abbrev pub Closed : Type 2
       Closed = (𝓤 : URA.URA M) (H : Wp.Heap 𝓤) (A : Atoms.Atoms 𝓤) (W : Kit.Given 𝓤 H A) (𝓣 : Wp.Tables 𝓤 H) (known0 : Plain.Known 𝓤 H A W 𝓣 3 ps·0 r·0 (claims· .0) (claims· .1)
-          "datasample_select::choose") (known1 : Plain.Known 𝓤 H A W 𝓣 0 ps·1 r·1 (claims· .2) (claims· .3) "session::choose_reply") → Statement.Triple 𝓤 (Wp.WpFn 𝓤 H (𝓣 .C) (𝓣 .Λ)
+          "datasample_select::choose") (known1 : Plain.Known 𝓤 H A W 𝓣 0 ps·1 r·1 (claims· .2) (claims· .3) "replies::choose_reply") → Statement.Triple 𝓤 (Wp.WpFn 𝓤 H (𝓣 .C) (𝓣 .Λ)
           (Function.fnOf 3 ps r xs m hs body)) (Function.plainOf 𝓤 H A 3 ps r Pre· Post·)
 
     module _ where
@@ -478,7 +478,7 @@ module _ (claims· : Claims) where
 
       module _ {M : Type 1} (𝓤 : URA.URA M) (H : Wp.Heap 𝓤) (A : Atoms.Atoms 𝓤) (W : Kit.Given 𝓤 H A) (𝓣 : Wp.Tables 𝓤 H) where
         abbrev Knowns : Type 1
-        Knowns = Plain.Known 𝓤 H A W 𝓣 3 ps·0 r·0 (claims· .0) (claims· .1) "datasample_select::choose" × Plain.Known 𝓤 H A W 𝓣 0 ps·1 r·1 (claims· .2) (claims· .3) "session::choose_reply"
+        Knowns = Plain.Known 𝓤 H A W 𝓣 3 ps·0 r·0 (claims· .0) (claims· .1) "datasample_select::choose" × Plain.Known 𝓤 H A W 𝓣 0 ps·1 r·1 (claims· .2) (claims· .3) "replies::choose_reply"
 
       module _ (κs : Lifetimes.Lfts 3) (qs : Lifetimes.Shares 3) where
         abbrev z0 : List.List Row.Life
@@ -663,7 +663,7 @@ module _ (claims· : Claims) where
               Chosen.the-type) Chosen′.mir refl)) d4
 
           d6 : Typed.Typed 𝓤 H A 𝓣 E G12 b8 Δ0 (at6 bs)
-          d6 = Typed.s-seq 𝓤 H A W 𝓣 E G12 G13 b4 b7 Δ0 (Typed.both (s11 bs)) (at5 bs) (Plain.t-call-plain 𝓤 H A W 𝓣 0 ps·1 r·1 (claims· .2) (claims· .3) "session::choose_reply" (known .1)
+          d6 = Typed.s-seq 𝓤 H A W 𝓣 E G12 G13 b4 b7 Δ0 (Typed.both (s11 bs)) (at5 bs) (Plain.t-call-plain 𝓤 H A W 𝓣 0 ps·1 r·1 (claims· .2) (claims· .3) "replies::choose_reply" (known .1)
               E (λ pos β. β) G12 (record { pos = 8; st = []; d = 0; at = λ x. x }, tt) 11 [] (Call.sub-id 𝓤 H A W (G12 .slots)) (
                 (
                   Yields.yields-copy 𝓤 H A W (λ ρ. Unit) (Declared.row
@@ -1064,6 +1064,6 @@ module _ (claims· : Claims) where
           }
 
         module _ {M : Type 1} (𝓤 : URA.URA M) (H : Wp.Heap 𝓤) (A : Atoms.Atoms 𝓤) (W : Kit.Given 𝓤 H A) (𝓣 : Wp.Tables 𝓤 H) (known0 : Plain.Known 𝓤 H A W 𝓣 3 ps·0 r·0 (claims· .0) (claims·
-            .1) "datasample_select::choose") (known1 : Plain.Known 𝓤 H A W 𝓣 0 ps·1 r·1 (claims· .2) (claims· .3) "session::choose_reply") where
+            .1) "datasample_select::choose") (known1 : Plain.Known 𝓤 H A W 𝓣 0 ps·1 r·1 (claims· .2) (claims· .3) "replies::choose_reply") where
           pub spec : Statement.Triple 𝓤 (Wp.WpFn 𝓤 H (𝓣 .C) (𝓣 .Λ) (Function.fnOf 3 ps r xs m hs body)) (Function.plainOf 𝓤 H A 3 ps r Pre· Post·)
           spec = Plain.t-fn-plain 𝓤 H A W 𝓣 3 ps r xs m hs body (λ κs qs bs. Φ bs) (λ κs qs bs bd. typed κs qs 𝓤 H A W 𝓣 (known0, known1) bs bd) Pre· Post· asked

@@ -2,11 +2,11 @@
 use Rattle.datasample_select.proofs.Lent.choose.Reads
 use Rattle.datasample_select.proofs.choose.Met
 use Rattle.datasample_select.proofs.choose.Symbol
+use Rattle.replies.proofs.choose_reply.Met as Met'
+use Rattle.replies.proofs.choose_reply.Reads as Reads'
+use Rattle.replies.proofs.choose_reply.Symbol as Symbol'
 use Rattle.session.proofs.Lent.do_choose.Kinds
 use Rattle.session.proofs.Lent.do_choose.Reads as Reads''
-use Rattle.session.proofs.choose_reply.Met as Met'
-use Rattle.session.proofs.choose_reply.Reads as Reads'
-use Rattle.session.proofs.choose_reply.Symbol as Symbol'
 use Rattle.session.proofs.do_choose.Code
 use Rattle.session.proofs.do_choose.Key
 use Rattle.session.proofs.do_choose.Proof.Lts
@@ -71,4 +71,4 @@ module _ {M : Type 1} where
         𝓖 = 𝓖;
         𝓡 =
             𝓡;
-      } Code.env Symbol'.name Symbol'.routine Code.calls-session·choose-reply (Met'.met 𝓤 H 𝓜 𝓖 𝓡))
+      } Code.env Symbol'.name Symbol'.routine Code.calls-replies·choose-reply (Met'.met 𝓤 H 𝓜 𝓖 𝓡))

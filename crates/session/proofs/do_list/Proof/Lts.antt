@@ -4,12 +4,12 @@ use Rattle.datasample_access.proofs.ListOutcome
 use Rattle.datasample_access.proofs.ListOutcome.Laws as ListOutcome′
 use Rattle.index.proofs.Cache
 use Rattle.index.proofs.Cache.Laws as Cache′
+use Rattle.replies.proofs.Replied
+use Rattle.replies.proofs.Replied.Laws as Replied′
+use Rattle.replies.proofs.Session
+use Rattle.replies.proofs.Session.Laws as Session′
 use Rattle.sampleinfo.proofs.Short as L
 use Rattle.sampleinfo.proofs.Slot as S
-use Rattle.session.proofs.Replied
-use Rattle.session.proofs.Replied.Laws as Replied′
-use Rattle.session.proofs.Session
-use Rattle.session.proofs.Session.Laws as Session′
 use borrow.Author.Called
 use borrow.Fn.Any
 use borrow.Fn.Call
@@ -290,7 +290,7 @@ abbrev b4 : Y.Body
 b4 = Y.assign (Y.place 15 []) (Y.rvOpd (Y.copy (Y.place 6 (Y.field 1 ∷ []))))
 
 abbrev b5 : Y.Body
-b5 = Y.call "session::at_most" (Y.copy (Y.place 9 []) ∷ Y.copy (Y.place 15 []) ∷ []) (Y.place 10 [])
+b5 = Y.call "replies::at_most" (Y.copy (Y.place 9 []) ∷ Y.copy (Y.place 15 []) ∷ []) (Y.place 10 [])
 
 abbrev b6 : Y.Body
 b6 = Y.assign (Y.place 16 []) (Y.rvOpd (Y.copy (Y.place 5 [])))
@@ -321,7 +321,7 @@ b14 = Y.call "datasample_access::take_by_keys" (Y.copy (Y.place 8 []) ∷ Y.copy
     [])
 
 abbrev b15 : Y.Body
-b15 = Y.call "session::list_done" (Y.copy (Y.place 11 []) ∷ []) (Y.place 0 [])
+b15 = Y.call "replies::list_done" (Y.copy (Y.place 11 []) ∷ []) (Y.place 0 [])
 
 abbrev b16 : Y.Body
 b16 = Y.return
@@ -385,7 +385,7 @@ b35 = Y.call "datasample_access::read_by_keys" (Y.copy (Y.place 8 []) ∷ Y.copy
     [])
 
 abbrev b36 : Y.Body
-b36 = Y.call "session::list_done" (Y.copy (Y.place 12 []) ∷ []) (Y.place 0 [])
+b36 = Y.call "replies::list_done" (Y.copy (Y.place 12 []) ∷ []) (Y.place 0 [])
 
 abbrev b37 : Y.Body
 b37 = Y.return
@@ -1172,8 +1172,8 @@ module _ (claims· : Claims) where
     module _ (M : Type 1) where
       abbrev pub Closed : Type 2
       Closed = (𝓤 : URA.URA M) (H : Wp.Heap 𝓤) (A : Atoms.Atoms 𝓤) (W : Kit.Given 𝓤 H A) (𝓣 : Wp.Tables 𝓤 H) (known0 : Plain.Known 𝓤 H A W 𝓣 2 ps·0 r·0 (claims· .0) (claims· .1)
-          "records::pairs_of") (known1 : Plain.Known 𝓤 H A W 𝓣 0 ps·1 r·1 (claims· .2) (claims· .3) "session::at_most") (known2 : Plain.Known 𝓤 H A W 𝓣 4 ps·2 r·2 (claims· .4) (claims· .5)
-          "datasample_access::take_by_keys") (known3 : Plain.Known 𝓤 H A W 𝓣 0 ps·3 r·3 (claims· .6) (claims· .7) "session::list_done") (known4 : Plain.Known 𝓤 H A W 𝓣 4 ps·4 r·4 (claims·
+          "records::pairs_of") (known1 : Plain.Known 𝓤 H A W 𝓣 0 ps·1 r·1 (claims· .2) (claims· .3) "replies::at_most") (known2 : Plain.Known 𝓤 H A W 𝓣 4 ps·2 r·2 (claims· .4) (claims· .5)
+          "datasample_access::take_by_keys") (known3 : Plain.Known 𝓤 H A W 𝓣 0 ps·3 r·3 (claims· .6) (claims· .7) "replies::list_done") (known4 : Plain.Known 𝓤 H A W 𝓣 4 ps·4 r·4 (claims·
           .8) (claims· .9) "datasample_access::read_by_keys") → Statement.Triple 𝓤 (Wp.WpFn 𝓤 H (𝓣 .C) (𝓣 .Λ) (Function.fnOf 5 ps r xs m hs body)) (Function.plainOf 𝓤 H A 5 ps r Pre· Post·)
 
     module _ where
@@ -1437,8 +1437,8 @@ module _ (claims· : Claims) where
 
       module _ {M : Type 1} (𝓤 : URA.URA M) (H : Wp.Heap 𝓤) (A : Atoms.Atoms 𝓤) (W : Kit.Given 𝓤 H A) (𝓣 : Wp.Tables 𝓤 H) where
         abbrev Knowns : Type 1
-        Knowns = Plain.Known 𝓤 H A W 𝓣 2 ps·0 r·0 (claims· .0) (claims· .1) "records::pairs_of" × Plain.Known 𝓤 H A W 𝓣 0 ps·1 r·1 (claims· .2) (claims· .3) "session::at_most" × Plain.Known
-            𝓤 H A W 𝓣 4 ps·2 r·2 (claims· .4) (claims· .5) "datasample_access::take_by_keys" × Plain.Known 𝓤 H A W 𝓣 0 ps·3 r·3 (claims· .6) (claims· .7) "session::list_done" × Plain.Known
+        Knowns = Plain.Known 𝓤 H A W 𝓣 2 ps·0 r·0 (claims· .0) (claims· .1) "records::pairs_of" × Plain.Known 𝓤 H A W 𝓣 0 ps·1 r·1 (claims· .2) (claims· .3) "replies::at_most" × Plain.Known
+            𝓤 H A W 𝓣 4 ps·2 r·2 (claims· .4) (claims· .5) "datasample_access::take_by_keys" × Plain.Known 𝓤 H A W 𝓣 0 ps·3 r·3 (claims· .6) (claims· .7) "replies::list_done" × Plain.Known
             𝓤 H A W 𝓣 4 ps·4 r·4 (claims· .8) (claims· .9) "datasample_access::read_by_keys"
 
       module _ (κs : Lifetimes.Lfts 5) (qs : Lifetimes.Shares 5) where
@@ -2054,7 +2054,7 @@ module _ (claims· : Claims) where
               ListOutcome.the-type) ListOutcome′.mir refl)) d3
 
           d5 : Typed.Typed 𝓤 H A 𝓣 E G45 b17 Δ1 (at5 bs)
-          d5 = Typed.s-seq 𝓤 H A W 𝓣 E G45 G46 b15 b16 Δ1 (Typed.both (s43 bs)) (at4 bs) (Plain.t-call-plain 𝓤 H A W 𝓣 0 ps·3 r·3 (claims· .6) (claims· .7) "session::list_done" (known .3) E
+          d5 = Typed.s-seq 𝓤 H A W 𝓣 E G45 G46 b15 b16 Δ1 (Typed.both (s43 bs)) (at4 bs) (Plain.t-call-plain 𝓤 H A W 𝓣 0 ps·3 r·3 (claims· .6) (claims· .7) "replies::list_done" (known .3) E
               (λ pos β. β) G45 (record { pos = 11; st = []; d = 0; at = λ x. x }, tt) 0 [] (Call.sub-id 𝓤 H A W (G45 .slots)) (
                 (
                   Yields.yields-copy 𝓤 H A W (λ ρ. Unit) (Declared.row
@@ -2436,7 +2436,7 @@ module _ (claims· : Claims) where
           d40 = Typed.g-pre 𝓤 H A W 𝓣 E G78 G79 b37 Δ0 (Typed.pass T78 T79 (s76 bs)) (at39 bs) (Scalar.g-room 𝓤 H A W E G78 9 (Y.tyInt Y.w64) (Scalar.room-sc 𝓤 H A W (Row.sInt Y.w64))) d39
 
           d41 : Typed.Typed 𝓤 H A 𝓣 E G77 b38 Δ0 (at41 bs)
-          d41 = Typed.s-seq 𝓤 H A W 𝓣 E G77 G78 b36 b37 Δ0 (Typed.both (s75 bs)) (at40 bs) (Plain.t-call-plain 𝓤 H A W 𝓣 0 ps·3 r·3 (claims· .6) (claims· .7) "session::list_done" (known .3)
+          d41 = Typed.s-seq 𝓤 H A W 𝓣 E G77 G78 b36 b37 Δ0 (Typed.both (s75 bs)) (at40 bs) (Plain.t-call-plain 𝓤 H A W 𝓣 0 ps·3 r·3 (claims· .6) (claims· .7) "replies::list_done" (known .3)
               E (λ pos β. β) G77 (record { pos = 12; st = []; d = 0; at = λ x. x }, tt) 0 [] (Call.sub-id 𝓤 H A W (G77 .slots)) (
                 (
                   Yields.yields-copy 𝓤 H A W (λ ρ. Unit) (Declared.row
@@ -2800,7 +2800,7 @@ module _ (claims· : Claims) where
           d70 = Typed.g-pre 𝓤 H A W 𝓣 E G15 G16 b48 Δ0 (Typed.pass T15 T16 (s14 bs)) (at69 bs) (Scalar.g-room 𝓤 H A W E G15 15 (Y.tyInt Y.w64) (Scalar.room-sc 𝓤 H A W (Row.sInt Y.w64))) d69
 
           d71 : Typed.Typed 𝓤 H A 𝓣 E G14 b49 Δ0 (at71 bs)
-          d71 = Typed.s-seq 𝓤 H A W 𝓣 E G14 G15 b5 b48 Δ0 (Typed.both (s13 bs)) (at70 bs) (Plain.t-call-plain 𝓤 H A W 𝓣 0 ps·1 r·1 (claims· .2) (claims· .3) "session::at_most" (known .1) E
+          d71 = Typed.s-seq 𝓤 H A W 𝓣 E G14 G15 b5 b48 Δ0 (Typed.both (s13 bs)) (at70 bs) (Plain.t-call-plain 𝓤 H A W 𝓣 0 ps·1 r·1 (claims· .2) (claims· .3) "replies::at_most" (known .1) E
               (λ pos β. β) G14 (Num.vAt 9 λ x. x, (Num.vAt 15 λ x. x, tt)) 10 [] (Call.sub-id 𝓤 H A W (G14 .slots)) (
                 (Scalar.reads-sc 𝓤 H A W (Row.sInt Y.w64), refl),
                 (
@@ -4105,8 +4105,8 @@ module _ (claims· : Claims) where
           }
 
         module _ {M : Type 1} (𝓤 : URA.URA M) (H : Wp.Heap 𝓤) (A : Atoms.Atoms 𝓤) (W : Kit.Given 𝓤 H A) (𝓣 : Wp.Tables 𝓤 H) (known0 : Plain.Known 𝓤 H A W 𝓣 2 ps·0 r·0 (claims· .0) (claims·
-            .1) "records::pairs_of") (known1 : Plain.Known 𝓤 H A W 𝓣 0 ps·1 r·1 (claims· .2) (claims· .3) "session::at_most") (known2 : Plain.Known 𝓤 H A W 𝓣 4 ps·2 r·2 (claims· .4)
-            (claims· .5) "datasample_access::take_by_keys") (known3 : Plain.Known 𝓤 H A W 𝓣 0 ps·3 r·3 (claims· .6) (claims· .7) "session::list_done") (known4 : Plain.Known 𝓤 H A W 𝓣 4 ps·4
+            .1) "records::pairs_of") (known1 : Plain.Known 𝓤 H A W 𝓣 0 ps·1 r·1 (claims· .2) (claims· .3) "replies::at_most") (known2 : Plain.Known 𝓤 H A W 𝓣 4 ps·2 r·2 (claims· .4)
+            (claims· .5) "datasample_access::take_by_keys") (known3 : Plain.Known 𝓤 H A W 𝓣 0 ps·3 r·3 (claims· .6) (claims· .7) "replies::list_done") (known4 : Plain.Known 𝓤 H A W 𝓣 4 ps·4
             r·4 (claims· .8) (claims· .9) "datasample_access::read_by_keys") where
           pub spec : Statement.Triple 𝓤 (Wp.WpFn 𝓤 H (𝓣 .C) (𝓣 .Λ) (Function.fnOf 5 ps r xs m hs body)) (Function.plainOf 𝓤 H A 5 ps r Pre· Post·)
           spec = Plain.t-fn-plain 𝓤 H A W 𝓣 5 ps r xs m hs body (λ κs qs bs. Φ bs) (λ κs qs bs bd. typed κs qs 𝓤 H A W 𝓣 (known0, known1, known2, known3, known4) bs bd) Pre· Post· asked

@@ -6,12 +6,12 @@ use Rattle.index.proofs.Cache
 use Rattle.index.proofs.Cache.Laws as Cache′
 use Rattle.records.proofs.SetUp
 use Rattle.records.proofs.SetUp.Laws as SetUp′
+use Rattle.replies.proofs.Replied
+use Rattle.replies.proofs.Replied.Laws as Replied′
+use Rattle.replies.proofs.Session
+use Rattle.replies.proofs.Session.Laws as Session′
 use Rattle.sampleinfo.proofs.Short as L
 use Rattle.sampleinfo.proofs.Slot as S
-use Rattle.session.proofs.Replied
-use Rattle.session.proofs.Replied.Laws as Replied′
-use Rattle.session.proofs.Session
-use Rattle.session.proofs.Session.Laws as Session′
 use borrow.Author.Called
 use borrow.Fn.Any
 use borrow.Fn.Call
@@ -182,7 +182,7 @@ b4 = Y.call "datasample_cache::set_up" (Y.copy (Y.place 5 []) ∷ Y.copy (Y.plac
     Y.copy (Y.place 4 (Y.field 2 ∷ [])) ∷ []) (Y.place 6 [])
 
 abbrev b5 : Y.Body
-b5 = Y.call "session::set_up_done" (Y.copy (Y.place 6 []) ∷ []) (Y.place 0 [])
+b5 = Y.call "replies::set_up_done" (Y.copy (Y.place 6 []) ∷ []) (Y.place 0 [])
 
 abbrev b6 : Y.Body
 b6 = Y.return
@@ -364,7 +364,7 @@ module _ (claims· : Claims) where
     module _ (M : Type 1) where
       abbrev pub Closed : Type 2
       Closed = (𝓤 : URA.URA M) (H : Wp.Heap 𝓤) (A : Atoms.Atoms 𝓤) (W : Kit.Given 𝓤 H A) (𝓣 : Wp.Tables 𝓤 H) (known0 : Plain.Known 𝓤 H A W 𝓣 2 ps·0 r·0 (claims· .0) (claims· .1)
-          "datasample_cache::set_up") (known1 : Plain.Known 𝓤 H A W 𝓣 0 ps·1 r·1 (claims· .2) (claims· .3) "session::set_up_done") → Statement.Triple 𝓤 (Wp.WpFn 𝓤 H (𝓣 .C) (𝓣 .Λ)
+          "datasample_cache::set_up") (known1 : Plain.Known 𝓤 H A W 𝓣 0 ps·1 r·1 (claims· .2) (claims· .3) "replies::set_up_done") → Statement.Triple 𝓤 (Wp.WpFn 𝓤 H (𝓣 .C) (𝓣 .Λ)
           (Function.fnOf 2 ps r xs m hs body)) (Function.plainOf 𝓤 H A 2 ps r Pre· Post·)
 
     module _ where
@@ -433,7 +433,7 @@ module _ (claims· : Claims) where
 
       module _ {M : Type 1} (𝓤 : URA.URA M) (H : Wp.Heap 𝓤) (A : Atoms.Atoms 𝓤) (W : Kit.Given 𝓤 H A) (𝓣 : Wp.Tables 𝓤 H) where
         abbrev Knowns : Type 1
-        Knowns = Plain.Known 𝓤 H A W 𝓣 2 ps·0 r·0 (claims· .0) (claims· .1) "datasample_cache::set_up" × Plain.Known 𝓤 H A W 𝓣 0 ps·1 r·1 (claims· .2) (claims· .3) "session::set_up_done"
+        Knowns = Plain.Known 𝓤 H A W 𝓣 2 ps·0 r·0 (claims· .0) (claims· .1) "datasample_cache::set_up" × Plain.Known 𝓤 H A W 𝓣 0 ps·1 r·1 (claims· .2) (claims· .3) "replies::set_up_done"
 
       module _ (κs : Lifetimes.Lfts 2) (qs : Lifetimes.Shares 2) where
         abbrev z0 : List.List Row.Life
@@ -548,7 +548,7 @@ module _ (claims· : Claims) where
               SetUpOutcome.the-type) SetUpOutcome′.mir refl)) d0
 
           d2 : Typed.Typed 𝓤 H A 𝓣 E G18 b7 Δ0 (at2 bs)
-          d2 = Typed.s-seq 𝓤 H A W 𝓣 E G18 G19 b5 b6 Δ0 (Typed.both (s17 bs)) (at1 bs) (Plain.t-call-plain 𝓤 H A W 𝓣 0 ps·1 r·1 (claims· .2) (claims· .3) "session::set_up_done" (known .1) E
+          d2 = Typed.s-seq 𝓤 H A W 𝓣 E G18 G19 b5 b6 Δ0 (Typed.both (s17 bs)) (at1 bs) (Plain.t-call-plain 𝓤 H A W 𝓣 0 ps·1 r·1 (claims· .2) (claims· .3) "replies::set_up_done" (known .1) E
               (λ pos β. β) G18 (record { pos = 6; st = []; d = 0; at = λ x. x }, tt) 0 [] (Call.sub-id 𝓤 H A W (G18 .slots)) (
                 (
                   Yields.yields-copy 𝓤 H A W (λ ρ. Unit) (Declared.row
@@ -992,6 +992,6 @@ module _ (claims· : Claims) where
           asked = λ a good pre bs. laid record { κs = κs; args = record { s = a .0; ws = a .1 .0; t = a .1 .1 .0; u = a .1 .1 .1 .0 }; blocks = bs; good = good; pre = pre }
 
         module _ {M : Type 1} (𝓤 : URA.URA M) (H : Wp.Heap 𝓤) (A : Atoms.Atoms 𝓤) (W : Kit.Given 𝓤 H A) (𝓣 : Wp.Tables 𝓤 H) (known0 : Plain.Known 𝓤 H A W 𝓣 2 ps·0 r·0 (claims· .0) (claims·
-            .1) "datasample_cache::set_up") (known1 : Plain.Known 𝓤 H A W 𝓣 0 ps·1 r·1 (claims· .2) (claims· .3) "session::set_up_done") where
+            .1) "datasample_cache::set_up") (known1 : Plain.Known 𝓤 H A W 𝓣 0 ps·1 r·1 (claims· .2) (claims· .3) "replies::set_up_done") where
           pub spec : Statement.Triple 𝓤 (Wp.WpFn 𝓤 H (𝓣 .C) (𝓣 .Λ) (Function.fnOf 2 ps r xs m hs body)) (Function.plainOf 𝓤 H A 2 ps r Pre· Post·)
           spec = Plain.t-fn-plain 𝓤 H A W 𝓣 2 ps r xs m hs body (λ κs qs bs. Φ bs) (λ κs qs bs bd. typed κs qs 𝓤 H A W 𝓣 (known0, known1) bs bd) Pre· Post· asked

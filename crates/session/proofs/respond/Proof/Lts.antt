@@ -1,13 +1,13 @@
 -- Machine-made by `python3 lent.py session respond`: do not edit; make it again when the source changes.
 use Prim.Native.Nat
+use Rattle.replies.proofs.Replied
+use Rattle.replies.proofs.Replied.Laws as Replied′
+use Rattle.replies.proofs.Session
+use Rattle.replies.proofs.Session.Laws as Session′
 use Rattle.sampleinfo.proofs.Short as L
 use Rattle.sampleinfo.proofs.Slot as S
 use Rattle.session.proofs.Answered
 use Rattle.session.proofs.Answered.Laws as Answered′
-use Rattle.session.proofs.Replied
-use Rattle.session.proofs.Replied.Laws as Replied′
-use Rattle.session.proofs.Session
-use Rattle.session.proofs.Session.Laws as Session′
 use borrow.Author.Called
 use borrow.Fn.Any
 use borrow.Fn.Call
@@ -1339,29 +1339,25 @@ module _ (claims· : Claims) where
                 ),
               ) 0 (12 ∷ 13 ∷ 14 ∷ []) (Call.sub-id 𝓤 H A W (G36 .slots)) (
                 (
-                  Yields.yields-copy 𝓤 H A W (λ ρ. Unit) (Declared.row Replied.the-type) refl (Copies.cStruct Replied.the-type Replied′.the-laws Replied′.the-copy .copy 𝓤 H A W) r40 (λ x. x) (λ x.
-                      x) (λ ρ told. Local.mem-whole 𝓤 H A W (Declared.row Replied.the-type) ρ) λ ρ told. Local.whole-mem 𝓤 H A W (Declared.row Replied.the-type) ρ,
+                  Yields.yields-copy 𝓤 H A W (λ ρ. Unit) (Declared.row Replied.the-type) refl (Copies.cStruct Replied.the-type Replied′.the-laws Replied′.the-copy .copy 𝓤 H A W) r40 (λ x. x) (λ x. x)
+                      (λ ρ told. Local.mem-whole 𝓤 H A W (Declared.row Replied.the-type) ρ) λ ρ told. Local.whole-mem 𝓤 H A W (Declared.row Replied.the-type) ρ,
                   refl,
                 ),
                 (
-                  ShrRef.spares-sref 𝓤 H A
-                      W (Array.Array L.u64 512) y11 12,
+                  ShrRef.spares-sref 𝓤 H A W
+                      (Array.Array L.u64 512) y11 12,
                   Reads.reads-sref 𝓤 H A W (Array.Array L.u64 512) y11 12,
                   refl,
                   (
                     ShrRef.spares-sref 𝓤 H A W (Array.Array L.u64 6912) y8 13,
-                    Reads.reads-sref 𝓤
-                        H A W (Array.Array L.u64 6912) y8 13,
+                    Reads.reads-sref 𝓤 H
+                        A W (Array.Array L.u64 6912) y8 13,
                     refl,
-                    (
-                      Reads.as-is 𝓤 H A (Rows.mref (Array.Array L.u8 66048) y5 14),
-                      Reads.reads-mref 𝓤 H A W (Array.Array L.u8 66048) y5 14,
-                      refl,
-                      tt,
-                    ),
+                    (Reads.as-is 𝓤 H A (Rows.mref (Array.Array L.u8 66048) y5 14), Reads.reads-mref 𝓤 H A W (Array.Array L.u8 66048) y5 14, refl, tt),
                   ),
                 ),
-              ) (Reads.room-gone 𝓤 H A Answered′.mir) (tt, (tt, (tt, tt))) refl) d12
+              )
+              (Reads.room-gone 𝓤 H A Answered′.mir) (tt, (tt, (tt, tt))) refl) d12
 
           d14 : Typed.Typed 𝓤 H A 𝓣 E G35 b13 Δ0 at14
           d14 = Typed.s-seq 𝓤 H A W 𝓣 E G35 G36 b9 b12 Δ0 (Typed.give s34) at13 (Reborrow.t-mref-relend 𝓤 H A W E 𝓣 G35 8 18 6 14 (Array.Array L.u8 66048) y17 y2 y5 (Row.lease (κs .1 .1 .1

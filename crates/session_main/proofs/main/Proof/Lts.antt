@@ -1,9 +1,9 @@
 -- Machine-made by `python3 lent.py session_main main`: do not edit; make it again when the source changes.
 use Prim.Native.Nat
+use Rattle.replies.proofs.Session
+use Rattle.replies.proofs.Session.Laws as Session′
 use Rattle.sampleinfo.proofs.Short as L
 use Rattle.sampleinfo.proofs.Slot as S
-use Rattle.session.proofs.Session
-use Rattle.session.proofs.Session.Laws as Session′
 use Rattle.session_main.proofs.After
 use Rattle.session_main.proofs.After.Laws as After′
 use borrow.Author.Called

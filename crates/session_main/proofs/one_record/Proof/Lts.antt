@@ -1,11 +1,11 @@
 -- Machine-made by `python3 lent.py session_main one_record`: do not edit; make it again when the source changes.
 use Prim.Native.Nat
+use Rattle.replies.proofs.Session
+use Rattle.replies.proofs.Session.Laws as Session′
 use Rattle.sampleinfo.proofs.Short as L
 use Rattle.sampleinfo.proofs.Slot as S
 use Rattle.session.proofs.Answered
 use Rattle.session.proofs.Answered.Laws as Answered′
-use Rattle.session.proofs.Session
-use Rattle.session.proofs.Session.Laws as Session′
 use Rattle.session_main.proofs.After
 use Rattle.session_main.proofs.After.Laws as After′
 use Rattle.session_main.proofs.Head
@@ -2146,25 +2146,27 @@ module _ (claims· : Claims) where
           d4 : Typed.Typed 𝓤 H A 𝓣 E G15 b6 Δ1 (at4 bs)
           d4 = Typed.s-seq 𝓤 H A W 𝓣 E G15 G16 b4 b5 Δ1 (Typed.pass T15 T16 (s13 bs)) (at3 bs) (Make.t-make-told 𝓤 H A W E 𝓣 (Declared.row (Apart.apartT After.the-type)) refl (Laws'5.val
               (Apart.apartT After.the-type) After′.the-laws) (Laws'5.lawful (Apart.apartT After.the-type) After′.the-laws 𝓤 H A W) (Laws'5.makes (Apart.apartT After.the-type)
-              After′.the-plain 𝓤 H A) G15 0 (Scalar.oAt 1 Session′.mir (Laws'5.val Session.the-type Session′.the-laws) ∷ Scalar.oBool Bool'.false ∷ []) (λ m. (m .1 .0, (Bool'.false, tt))) (λ
-              m. Laws'4.Is (Declared.row Session.the-type) (m .1 .0) (Laws'5.vals Session.the-type Session′.the-laws (m .1 .0))) (Reads'.room-gone 𝓤 H A After′.mir) (
+              After′.the-plain 𝓤 H A) G15 0 (Scalar.oAt 1 Session′.mir (Laws'5.val Session.the-type Session′.the-laws) ∷ Scalar.oBool Bool'.false ∷ []) (λ m. (m .1 .0, (Bool'.false, tt))) (λ m.
+              Laws'4.Is (Declared.row Session.the-type) (m .1 .0) (Laws'5.vals Session.the-type Session′.the-laws (m .1 .0))) (Reads'.room-gone 𝓤 H A After′.mir) (
                 (
-                  Reads.reads-struct 𝓤 H A
-                      W Session.the-type Session′.the-laws,
+                  Reads.reads-struct 𝓤 H A W
+                      Session.the-type Session′.the-laws,
                   refl,
                 ),
                 (tt, tt),
               ) refl (λ ρ m. Make.tells-row 𝓤 H A W E ρ (Row.out 0 (G15 .locals)) m 1 (Laws'4.Is (Declared.row Session.the-type) (m .1 .0)
-              (Laws'5.vals Session.the-type Session′.the-laws (m .1 .0))) (Make.whole-is 𝓤 H A W E (Declared.row Session.the-type) refl (Laws'5.val Session.the-type Session′.the-laws)
-              (Laws'5.tells Session.the-type Session′.the-laws) ρ 1 (m .1 .0))) (λ m q. Signed.made-val (Apart.apartT After.the-type) After′.the-laws (Laws'5.val Session.the-type
+              (Laws'5.vals Session.the-type Session′.the-laws (m .1 .0))) (Make.whole-is 𝓤 H A W E (Declared.row Session.the-type) refl (Laws'5.val Session.the-type Session′.the-laws) (Laws'5.tells
+              Session.the-type Session′.the-laws) ρ 1 (m .1 .0))) (λ m q. Signed.made-val (Apart.apartT After.the-type) After′.the-laws (Laws'5.val Session.the-type Session′.the-laws (m .1 .0) ∷
+              After′.the-laws .1 .0 .val Bool'.false ∷ []) (m .1 .0, (Bool'.false, tt)) (
+                Signed.made-struct Session.the-type Session′.the-laws Session′.lowers (m .1 .0) q,
+                (
+                  Signed.made-wt
+                      Field.bool-field (After′.the-laws .1 .0) Make.bool-wt Bool'.false,
+                  tt,
+                ),
+              )) λ m q. Signed.made-is (Apart.apartT After.the-type) After′.the-laws (Laws'5.val Session.the-type
               Session′.the-laws (m .1 .0) ∷ After′.the-laws .1 .0 .val Bool'.false ∷ []) (m .1 .0, (Bool'.false, tt)) (
-                Signed.made-struct Session.the-type Session′.the-laws Session′.lowers (m .1 .0)
-                    q,
-                (Signed.made-wt Field.bool-field (After′.the-laws .1 .0) Make.bool-wt Bool'.false, tt),
-              )) λ m q. Signed.made-is (Apart.apartT After.the-type) After′.the-laws (Laws'5.val
-              Session.the-type Session′.the-laws (m .1 .0) ∷ After′.the-laws .1 .0 .val Bool'.false ∷ []) (m .1 .0, (Bool'.false, tt)) (
-                Signed.made-struct Session.the-type Session′.the-laws
-                    Session′.lowers (m .1 .0) q,
+                Signed.made-struct Session.the-type Session′.the-laws Session′.lowers (m .1 .0) q,
                 (Signed.made-wt Field.bool-field (After′.the-laws .1 .0) Make.bool-wt Bool'.false, tt),
               )) d3
 
@@ -2222,13 +2224,13 @@ module _ (claims· : Claims) where
                 ((Scalar.reads-sc 𝓤 H A W Row.sBool, refl), tt),
               ) refl (λ ρ m. Make.tells-row 𝓤 H A W E ρ (Row.out 0 (G81 .locals)) m 13 (Laws'4.Is
               (Declared.row Session.the-type) (m .1 .1 .1 .1 .1 .1 .1 .1 .1 .1 .1 .1 .1 .0) (Laws'5.vals Session.the-type Session′.the-laws (m .1 .1 .1 .1 .1 .1 .1 .1 .1 .1 .1 .1 .1 .0)))
-              (Make.whole-is 𝓤 H A W E (Declared.row Session.the-type) refl (Laws'5.val Session.the-type Session′.the-laws) (Laws'5.tells Session.the-type Session′.the-laws) ρ 13 (m .1 .1 .1 .1
-              .1 .1 .1 .1 .1 .1 .1 .1 .1 .0))) (λ m q. Signed.made-val (Apart.apartT After.the-type) After′.the-laws (Laws'5.val Session.the-type Session′.the-laws (m .1 .1 .1 .1 .1 .1 .1 .1
-              .1 .1 .1 .1 .1 .0) ∷ After′.the-laws .1 .0 .val (m .1 .1 .1 .1 .1 .1 .1 .1 .1 .1 .1 .1 .1 .1 .1 .1 .0) ∷ []) (
+              (Make.whole-is 𝓤 H A W E (Declared.row Session.the-type) refl (Laws'5.val Session.the-type Session′.the-laws) (Laws'5.tells Session.the-type Session′.the-laws) ρ 13 (m .1 .1 .1 .1 .1
+              .1 .1 .1 .1 .1 .1 .1 .1 .0))) (λ m q. Signed.made-val (Apart.apartT After.the-type) After′.the-laws (Laws'5.val Session.the-type Session′.the-laws (m .1 .1 .1 .1 .1 .1 .1 .1 .1 .1
+              .1 .1 .1 .0) ∷ After′.the-laws .1 .0 .val (m .1 .1 .1 .1 .1 .1 .1 .1 .1 .1 .1 .1 .1 .1 .1 .1 .0) ∷ []) (
                 m .1 .1 .1 .1 .1 .1 .1 .1 .1 .1 .1 .1 .1 .0,
                 (
-                  m .1 .1 .1 .1 .1 .1
-                      .1 .1 .1 .1 .1 .1 .1 .1 .1 .1 .0,
+                  m .1 .1 .1 .1 .1 .1 .1 .1
+                      .1 .1 .1 .1 .1 .1 .1 .1 .0,
                   tt,
                 ),
               ) (
@@ -2239,13 +2241,13 @@ module _ (claims· : Claims) where
                   tt,
                 ),
               )) λ m q. Signed.made-is (Apart.apartT After.the-type)
-              After′.the-laws (Laws'5.val Session.the-type Session′.the-laws (m .1 .1 .1 .1 .1 .1 .1 .1 .1 .1 .1 .1 .1 .0) ∷ After′.the-laws .1 .0 .val (m .1 .1 .1 .1 .1 .1 .1 .1 .1 .1 .1 .1
-              .1 .1 .1 .1 .0) ∷ []) (m .1 .1 .1 .1 .1 .1 .1 .1 .1 .1 .1 .1 .1 .0, (m .1 .1 .1 .1 .1 .1 .1 .1 .1 .1 .1 .1 .1 .1 .1 .1 .0, tt)) (
-                Signed.made-struct Session.the-type
-                    Session′.the-laws Session′.lowers (m .1 .1 .1 .1 .1 .1 .1 .1 .1 .1 .1 .1 .1 .0) q,
+              After′.the-laws (Laws'5.val Session.the-type Session′.the-laws (m .1 .1 .1 .1 .1 .1 .1 .1 .1 .1 .1 .1 .1 .0) ∷ After′.the-laws .1 .0 .val (m .1 .1 .1 .1 .1 .1 .1 .1 .1 .1 .1 .1 .1
+              .1 .1 .1 .0) ∷ []) (m .1 .1 .1 .1 .1 .1 .1 .1 .1 .1 .1 .1 .1 .0, (m .1 .1 .1 .1 .1 .1 .1 .1 .1 .1 .1 .1 .1 .1 .1 .1 .0, tt)) (
+                Signed.made-struct Session.the-type Session′.the-laws
+                    Session′.lowers (m .1 .1 .1 .1 .1 .1 .1 .1 .1 .1 .1 .1 .1 .0) q,
                 (
-                  Signed.made-wt Field.bool-field (After′.the-laws .1 .0) Make.bool-wt (m .1 .1 .1 .1 .1 .1 .1 .1
-                      .1 .1 .1 .1 .1 .1 .1 .1 .0),
+                  Signed.made-wt Field.bool-field (After′.the-laws .1 .0) Make.bool-wt (m .1 .1 .1 .1 .1 .1 .1 .1 .1 .1 .1 .1 .1 .1
+                      .1 .1 .0),
                   tt,
                 ),
               )) d15
@@ -2485,16 +2487,14 @@ module _ (claims· : Claims) where
 
           d35 : Typed.Typed 𝓤 H A 𝓣 E G62 b34 Δ0 (at35 bs)
           d35 = Typed.s-seq 𝓤 H A W 𝓣 E G62 G63 b20 b33 Δ0 (Typed.both (s60 bs)) (at34 bs) (WayStmt.t-way-copy-out 𝓤 H A W E 𝓣 (Declared.row Session.the-type) refl (Copies.cStruct
-              Session.the-type Session′.the-laws Session′.the-copy .copy 𝓤 H A W) (λ ρ. Unit) G62 (Row.out 12 (G62 .locals)) (λ u. Row.drop 12 (G62 .locals) u) (G62 .slots) 12 (λ t. Y.field 0 ∷
-              t) Session′.mir Session′.mir 13 r47 (λ x. x) (λ u. At.getAt (Answered.the-type .parts) 0 (Answered.struct .as-values (u .1 .1 .1 .1 .1 .1 .1 .1 .1 .1 .1 .1 .0))) (λ u. (
-                Row.hd
-                    0 (Row.tl (Row.tl (Row.tl (Row.tl (Row.tl (Row.tl (Row.tl (Row.tl (Row.tl (Row.tl (Row.tl (Row.tl bs)))))))))))),
+              Session.the-type Session′.the-laws Session′.the-copy .copy 𝓤 H A W) (λ ρ. Unit) G62 (Row.out 12 (G62 .locals)) (λ u. Row.drop 12 (G62 .locals) u) (G62 .slots) 12 (λ t. Y.field 0 ∷ t)
+              Session′.mir Session′.mir 13 r47 (λ x. x) (λ u. At.getAt (Answered.the-type .parts) 0 (Answered.struct .as-values (u .1 .1 .1 .1 .1 .1 .1 .1 .1 .1 .1 .1 .0))) (λ u. (
+                Row.hd 0
+                    (Row.tl (Row.tl (Row.tl (Row.tl (Row.tl (Row.tl (Row.tl (Row.tl (Row.tl (Row.tl (Row.tl (Row.tl bs)))))))))))),
                 Nat._+_ 0 0,
               )) (λ T′. record {
-                locals = Row.setRow 12 (
-                  12,
-                  r46,
-                ) T′;
+                locals = Row.setRow 12 (12, r46)
+                    T′;
                 slots = G62 .slots;
               }) (λ u T′ m′. Row.set 12 (12, r46) (u .1 .1 .1 .1 .1 .1 .1 .1 .1 .1 .1 .1 .0) T′ m′) (λ u. Unit) (λ x. Unit) (Own.told-none 𝓤 H A (G62 .slots))
               (DerefMove.learns-nothing 𝓤 H A (Declared.row Session.the-type)) (λ ρ told u asked. Way'.w-partˢ 𝓤 H A W E (Declared.row Answered.the-type) (Declared.row Session.the-type)
@@ -2641,14 +2641,14 @@ module _ (claims· : Claims) where
               ) 12 (8 ∷ 9 ∷ 10 ∷ 11 ∷ 12 ∷ 13 ∷ 14 ∷ []) (Call.sub-id 𝓤 H A W (G38 .slots)) (
                 (
                   Yields.yields-copy 𝓤 H A W (λ ρ.
-                      Unit) (Declared.row Session.the-type) refl (Copies.cStruct Session.the-type Session′.the-laws Session′.the-copy .copy 𝓤 H A W) r47 (λ x. x) (λ x. x) (λ ρ told. Local.mem-whole 𝓤 H A
-                      W (Declared.row Session.the-type) ρ) λ ρ told. Local.whole-mem 𝓤 H A W (Declared.row Session.the-type) ρ,
+                      Unit) (Declared.row Session.the-type) refl (Copies.cStruct Session.the-type Session′.the-laws Session′.the-copy .copy 𝓤 H A W) r47 (λ x. x) (λ x. x) (λ ρ told. Local.mem-whole 𝓤 H A W
+                      (Declared.row Session.the-type) ρ) λ ρ told. Local.whole-mem 𝓤 H A W (Declared.row Session.the-type) ρ,
                   refl,
                 ),
                 (
                   Reads'.as-is 𝓤 H A r16,
-                  Reads'.reads-mref 𝓤 H A W
-                      (Array.Array L.u64 928) y8 8,
+                  Reads'.reads-mref 𝓤 H A W (Array.Array
+                      L.u64 928) y8 8,
                   refl,
                   (
                     Reads'.as-is 𝓤 H A r43,
@@ -2656,8 +2656,8 @@ module _ (claims· : Claims) where
                     refl,
                     (
                       ShrSlice.spares-sslice 𝓤 H A W L.u8 y15 10,
-                      Shared.reads-sslice 𝓤 H A
-                          W L.u8 y15 10,
+                      Shared.reads-sslice 𝓤 H A W L.u8 y15
+                          10,
                       refl,
                       (
                         Reads'.as-is 𝓤 H A r10,
@@ -2665,16 +2665,15 @@ module _ (claims· : Claims) where
                         refl,
                         (
                           Reads'.as-is 𝓤 H A r12,
-                          Reads'.reads-mref 𝓤 H A W (Array.Array
-                              L.u64 512) y9 12,
+                          Reads'.reads-mref 𝓤 H A W (Array.Array L.u64 512)
+                              y9 12,
                           refl,
                           (
                             Reads'.as-is 𝓤 H A r11,
                             Reads'.reads-mref 𝓤 H A W (Array.Array L.u64 6912) y7 13,
                             refl,
                             (
-                              Reads'.as-is 𝓤 H A (Rows.mref (Array.Array L.u8 66048) y5
-                                  14),
+                              Reads'.as-is 𝓤 H A (Rows.mref (Array.Array L.u8 66048) y5 14),
                               Reads'.reads-mref 𝓤 H A W (Array.Array L.u8 66048) y5 14,
                               refl,
                               tt,

@@ -1,7 +1,7 @@
 use borrow.Author.Needs.{needs}
-use Rattle.session.specs.StepLaws.{choose-selected, choose-refused}
-use Rattle.session.proofs.choose_reply.Statement.{statement}
-use Rattle.session.proofs.choose_reply.Tie as tie
+use Rattle.replies.specs.StepLaws.{choose-selected, choose-refused}
+use Rattle.replies.proofs.choose_reply.Statement.{statement}
+use Rattle.replies.proofs.choose_reply.Tie as tie
 
 enum-known-r : tie.Need-enum-known-r
 enum-known-r c = search needs

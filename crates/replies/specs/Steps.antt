@@ -27,8 +27,8 @@ use Rattle.printing.specs.declared.Maybe.{Maybe}
 use Rattle.printing.specs.declared.Maybe.the-variants as maybe
 use Rattle.answers.specs.declared.Reply.{Reply}
 use Rattle.answers.specs.declared.Reply.the-variants as reply
-use Rattle.session.specs.declared.Session.{Session}
-use Rattle.session.specs.declared.Replied.{Replied}
+use Rattle.replies.specs.declared.Session.{Session}
+use Rattle.replies.specs.declared.Replied.{Replied}
 
 abbrev pub said : Session → Reply → Replied
 said s r = record { session = s; reply = r }

@@ -1,7 +1,7 @@
 use borrow.Author.Needs.{needs}
-use Rattle.session.specs.StepLaws.{list-done}
-use Rattle.session.proofs.list_done.Statement.{statement}
-use Rattle.session.proofs.list_done.Tie as tie
+use Rattle.replies.specs.StepLaws.{list-done}
+use Rattle.replies.proofs.list_done.Statement.{statement}
+use Rattle.replies.proofs.list_done.Tie as tie
 
 list-reply-requires : tie.Need-list-reply-requires
 list-reply-requires c κs = search needs

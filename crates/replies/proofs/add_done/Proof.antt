@@ -1,7 +1,7 @@
 use borrow.Author.Needs.{needs}
-use Rattle.session.specs.StepLaws.{add-done}
-use Rattle.session.proofs.add_done.Statement.{statement}
-use Rattle.session.proofs.add_done.Tie as tie
+use Rattle.replies.specs.StepLaws.{add-done}
+use Rattle.replies.proofs.add_done.Statement.{statement}
+use Rattle.replies.proofs.add_done.Tie as tie
 
 add-reply-requires : tie.Need-add-reply-requires
 add-reply-requires c κs = search needs

@@ -1,7 +1,7 @@
 use borrow.Author.Needs.{needs}
-use Rattle.session.specs.StepLaws.{reply-ok, reply-refused}
-use Rattle.session.proofs.reply_of.Statement.{statement}
-use Rattle.session.proofs.reply_of.Tie as tie
+use Rattle.replies.specs.StepLaws.{reply-ok, reply-refused}
+use Rattle.replies.proofs.reply_of.Statement.{statement}
+use Rattle.replies.proofs.reply_of.Tie as tie
 
 enum-told : tie.Need-enum-told
 enum-told c = search needs

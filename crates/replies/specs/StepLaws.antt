@@ -25,8 +25,8 @@ use Rattle.datasample_access.specs.declared.ListOutcome.{ListOutcome}
 use Rattle.records.specs.Format.{bad}
 use Rattle.records.specs.Requests.{callMeant}
 use Rattle.records.specs.declared.Request.{Request}
-use Rattle.session.specs.declared.Replied.{Replied}
-use Rattle.session.specs.Steps.{said, sessionOf, isOk, replySaid, setUpDone, evictedSaid, addSaid, addDone, chooseSaid, listSaid, listDone, nextSaid, isSetUp, same, refusalBy}
+use Rattle.replies.specs.declared.Replied.{Replied}
+use Rattle.replies.specs.Steps.{said, sessionOf, isOk, replySaid, setUpDone, evictedSaid, addSaid, addDone, chooseSaid, listSaid, listDone, nextSaid, isSetUp, same, refusalBy}
 
 module _ (n : ℕ) where
   pub reply-refused : (x : cache-reply.Reply) → x ≡ cache.Refused n → reply.Refused n ≡ replySaid x

@@ -1,7 +1,7 @@
 use borrow.Author.Needs.{needs}
-use Rattle.session.specs.StepLaws.{evicted-handle, evicted-nothing}
-use Rattle.session.proofs.evicted.Statement.{statement}
-use Rattle.session.proofs.evicted.Tie as tie
+use Rattle.replies.specs.StepLaws.{evicted-handle, evicted-nothing}
+use Rattle.replies.proofs.evicted.Statement.{statement}
+use Rattle.replies.proofs.evicted.Tie as tie
 
 enum-known-e : tie.Need-enum-known-e
 enum-known-e c = search needs

@@ -1,7 +1,7 @@
 use borrow.Author.Needs.{needs}
-use Rattle.session.specs.StepLaws.{set-up-done}
-use Rattle.session.proofs.set_up_done.Statement.{statement}
-use Rattle.session.proofs.set_up_done.Tie as tie
+use Rattle.replies.specs.StepLaws.{set-up-done}
+use Rattle.replies.proofs.set_up_done.Statement.{statement}
+use Rattle.replies.proofs.set_up_done.Tie as tie
 
 is-ok-requires : tie.Need-is-ok-requires
 is-ok-requires c κs = search needs

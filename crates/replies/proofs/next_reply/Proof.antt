@@ -1,7 +1,7 @@
 use borrow.Author.Needs.{needs}
-use Rattle.session.specs.StepLaws.{next-key, next-nothing}
-use Rattle.session.proofs.next_reply.Statement.{statement}
-use Rattle.session.proofs.next_reply.Tie as tie
+use Rattle.replies.specs.StepLaws.{next-key, next-nothing}
+use Rattle.replies.proofs.next_reply.Statement.{statement}
+use Rattle.replies.proofs.next_reply.Tie as tie
 
 enum-known-r : tie.Need-enum-known-r
 enum-known-r c = search needs

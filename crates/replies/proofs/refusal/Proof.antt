@@ -1,7 +1,7 @@
 use borrow.Author.Needs.{needs}
-use Rattle.session.specs.StepLaws.{refusal-one, refusal-ten, refusal-none}
-use Rattle.session.proofs.refusal.Statement.{statement}
-use Rattle.session.proofs.refusal.Tie as tie
+use Rattle.replies.specs.StepLaws.{refusal-one, refusal-ten, refusal-none}
+use Rattle.replies.proofs.refusal.Statement.{statement}
+use Rattle.replies.proofs.refusal.Tie as tie
 
 is-bad-requires : tie.Need-is-bad-requires
 is-bad-requires c κs = search needs

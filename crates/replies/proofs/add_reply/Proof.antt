@@ -1,7 +1,7 @@
 use borrow.Author.Needs.{needs}
-use Rattle.session.specs.StepLaws.{add-added, add-refused}
-use Rattle.session.proofs.add_reply.Statement.{statement}
-use Rattle.session.proofs.add_reply.Tie as tie
+use Rattle.replies.specs.StepLaws.{add-added, add-refused}
+use Rattle.replies.proofs.add_reply.Statement.{statement}
+use Rattle.replies.proofs.add_reply.Tie as tie
 
 enum-known-a : tie.Need-enum-known-a
 enum-known-a c = search needs
