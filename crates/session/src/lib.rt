@@ -187,7 +187,7 @@ fn printed(r: Replied, pairs: &[u64; 512], infos: &[u64; 6912], line: &mut [u8; 
     }
 }
 
-// A record, without its two length bytes, is answered: its lines stand at the front of `line`. The last three buffers but one are working space.
+// A record, without its two length bytes, is answered: its lines stand at the front of `line`. `list`, `pairs` and `infos` are working space.
 pub fn respond(
     s: Session,
     ws: &mut [u64; 928],

@@ -194,6 +194,10 @@ fn write_sessions(o: &Options) -> io::Result<usize> {
 fn short_sessions(o: &Options) -> io::Result<usize> {
     let mut differences = 0;
     for set_up in short::SET_UPS {
+        let title = format!("{set_up:?}");
+        if !title.contains(&o.profile) {
+            continue;
+        }
         let mut tally = Tally::default();
         for length in 1..=o.length {
             for number in (0..short::words(length)).step_by(o.every as usize) {
@@ -204,7 +208,7 @@ fn short_sessions(o: &Options) -> io::Result<usize> {
                 )?;
             }
         }
-        tally.print(&format!("{set_up:?}"));
+        tally.print(&title);
         differences += tally.differences.len();
     }
     Ok(differences)
