@@ -1,7 +1,10 @@
 -- Each arm of a step of the code.
 use mathlib.Core.Path.{_≡_, refl}
 use mathlib.Core.Bool.{Bool, true, false}
-use Prim.Native.Nat.{ℕ}
+use Prim.Native.Nat.{ℕ, _≤_, _<_}
+use native.Mathlib.Omega.{arith}
+use native.Mathlib.Decide.{decLt}
+use borrow.Author.Tests.{lt-ltb, le-ltb}
 use Rattle.datasample_cache.specs.declared.Evicted.{Evicted}
 use Rattle.datasample_cache.specs.declared.Evicted.the-variants as evicted
 use Rattle.datasample_cache.specs.declared.Added.{Added}
@@ -26,7 +29,7 @@ use Rattle.records.specs.Format.{bad}
 use Rattle.records.specs.Requests.{callMeant}
 use Rattle.records.specs.declared.Request.{Request}
 use Rattle.replies.specs.declared.Replied.{Replied}
-use Rattle.replies.specs.Steps.{said, sessionOf, isOk, replySaid, setUpDone, evictedSaid, addSaid, addDone, chooseSaid, listSaid, listDone, nextSaid, isSetUp, same, refusalBy}
+use Rattle.replies.specs.Steps.{said, sessionOf, isOk, replySaid, setUpDone, evictedSaid, addSaid, addDone, chooseSaid, listSaid, listDone, atMost, nextSaid, isSetUp, same, refusalBy}
 
 module _ (n : ℕ) where
   pub reply-refused : (x : cache-reply.Reply) → x ≡ cache.Refused n → reply.Refused n ≡ replySaid x
@@ -75,6 +78,29 @@ add-done r x q e f = rw (f, e) refl
 
 pub list-done : (r : ListOutcome) (x : Reply) (q : Replied) → x ≡ listSaid (r .answer) → q ≡ said (sessionOf (r .head) true) x → q ≡ listDone r
 list-done r x q e f = rw (f, e) refl
+
+-- ---- as many as there are
+
+module _ (n most : ℕ) where
+  pub at-most-asked : n < most → n ≡ atMost n most
+  at-most-asked h = rw (lt-ltb n most h) refl
+
+  pub at-most-all : most ≤ n → most ≡ atMost n most
+  at-most-all h = rw (le-ltb n most h) refl
+
+  pub at-most-there : atMost n most ≤ most
+  at-most-there = go (decLt n most)
+    where
+      go : Dec (n < most) → atMost n most ≤ most
+      go (yes h) = rw (lt-ltb n most h) (omega arith)
+      go (no h) = rw (le-ltb n most (omega arith)) (omega arith)
+
+  pub at-most-is : n ≤ most → atMost n most ≡ n
+  at-most-is k = go (decLt n most)
+    where
+      go : Dec (n < most) → atMost n most ≡ n
+      go (yes h) = rw (lt-ltb n most h) refl
+      go (no h) = rw (le-ltb n most (omega arith)) (omega arith)
 
 -- ---- the program's refusals
 

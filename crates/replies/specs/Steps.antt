@@ -2,6 +2,9 @@
 use mathlib.Core.Bool.{Bool, true, false, cond, not}
 use mathlib.Core.List.{[]}
 use Prim.Native.Nat.{ℕ}
+use lib.Dec.{ltb}
+use lib.ListN.{replicate}
+use Rattle.keys.specs.declared.Last.the-variants as last
 use Rattle.datasample_cache.specs.declared.Evicted.{Evicted}
 use Rattle.datasample_cache.specs.declared.Evicted.the-variants as evicted
 use Rattle.datasample_cache.specs.declared.Added.{Added}
@@ -72,6 +75,9 @@ listSaid (listed.Refused n) = reply.Refused n
 abbrev pub listDone : ListOutcome → Replied
 listDone r = said (sessionOf (r .head) true) (listSaid (r .answer))
 
+abbrev pub atMost : ℕ → ℕ → ℕ
+atMost n most = cond (ltb n most) n most
+
 abbrev pub nextSaid : Next → Reply
 nextSaid (next.Key k) = reply.Next (maybe.Number k)
 nextSaid next.Nothing = reply.Next maybe.None
@@ -86,6 +92,10 @@ isSetUp (op.Read n) = false
 isSetUp (op.Take n) = false
 isSetUp (op.NextKey n) = false
 isSetUp op.Malformed = false
+
+-- before the first record: no set-up was accepted, and the header is nobody's
+abbrev pub starting : Session
+starting = sessionOf (record { depth = 0; room = 0; held = 0; last = last.Never; newest = 256; free = record { words = replicate 4 18446744073709551615 } }) false
 
 -- both, or neither
 abbrev pub same : Bool → Bool → Bool

@@ -1,8 +1,8 @@
 // The values of a session: what it holds, a call's outcome as the reply to a record, and what is refused before the cache is asked.
 ghost use mathlib.Core.Path.{_≡_};
 ghost use mathlib.Core.Bool.{true};
-ghost use Prim.Native.Nat.{_<_, _^_, _≤_};
-ghost use Rattle.replies.specs.Steps.{said, sessionOf, declinedWith, isOk, replySaid, setUpDone, evictedSaid, addSaid, addDone, chooseSaid, listSaid, listDone, nextSaid, isSetUp, same, refusalBy};
+ghost use Prim.Native.Nat.{_<_, _^_};
+ghost use Rattle.replies.specs.Steps.{said, sessionOf, declinedWith, isOk, replySaid, setUpDone, evictedSaid, addSaid, addDone, chooseSaid, listSaid, listDone, atMost, nextSaid, isSetUp, same, refusalBy};
 use answers::Reply;
 use printing::Maybe;
 
@@ -140,7 +140,7 @@ pub fn list_done(r: datasample_access::ListOutcome) -> Replied
 
 // As many words as there are: a record of 65,535 bytes has no more than 8,190.
 pub fn at_most(n: usize, most: usize) -> usize
-    ensures { λ r. ⌜ (r ≤ most) × (n ≤ most → r ≡ n) ⌝ }
+    ensures { λ r. ⌜ r ≡ atMost n most ⌝ }
 {
     if n < most {
         return n;

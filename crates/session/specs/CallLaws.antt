@@ -57,7 +57,8 @@ use Rattle.answers.specs.Says.{Says}
 use Rattle.answers.specs.declared.Reply.{Reply}
 use Rattle.session.specs.Session.{answering, refuse}
 use Rattle.session.specs.Stands.{Ready, Unready, Answers}
-use Rattle.replies.specs.Steps.{said, sessionOf, setUpDone, replySaid, evictedSaid, addSaid, addDone, chooseSaid, listSaid, listDone, nextSaid}
+use Rattle.replies.specs.Steps.{said, sessionOf, setUpDone, replySaid, evictedSaid, addSaid, addDone, chooseSaid, listSaid, listDone, atMost, nextSaid}
+use Rattle.replies.specs.StepLaws.{at-most-there, at-most-is}
 use Rattle.replies.specs.declared.Session.{Session}
 use Rattle.replies.specs.declared.Replied.{Replied}
 
@@ -132,19 +133,22 @@ unfolding listing wholePairs
 listing-is m take ps keys room P k n h = rw (k, n, words-even ps, pairs-back ps) at h
 
 -- as many as were asked for, or all
-pub front-long : (l : List ℕ) (n k : ℕ) → (k ≤ length l) × (n ≤ length l → k ≡ n) → k ≡ length (take k l)
-front-long l n k h = omega (arith, h .0, length-take k l)
+pub front-long : (l : List ℕ) (n k : ℕ) → k ≡ atMost n (length l) → k ≡ length (take k l)
+front-long l n k h = omega (arith, at-most-there n (length l), length-take k l)
+
+pub front-there : (l : List ℕ) (n k : ℕ) → k ≡ atMost n (length l) → k ≤ length l
+front-there l n k h = rw h (at-most-there n (length l))
 
 -- the words of a record stand at the front of the list
-front-words : (rec buf now′ : List ℕ) (n k : ℕ) → n ≡ length (wordsIn rec) → now′ ≡ laidIn buf (wordsIn rec) → (k ≤ length now′) × (n ≤ length now′ → k ≡ n) → length (wordsIn rec) ≤ length buf → length now′ ≡ length buf
+front-words : (rec buf now′ : List ℕ) (n k : ℕ) → n ≡ length (wordsIn rec) → now′ ≡ laidIn buf (wordsIn rec) → k ≡ atMost n (length now′) → length (wordsIn rec) ≤ length buf → length now′ ≡ length buf
     → take k now′ ≡ wordsIn rec
-front-words rec buf now′ n k en el ek few long = rw (ek .1 (omega arith), en, el) (words-laid rec buf few)
+front-words rec buf now′ n k en el ek few long = rw (ek ∙ at-most-is n (length now′) (omega arith), en, el) (words-laid rec buf few)
 
 -- ---- the calls
 
 module _ (s : Session) (ws after : List ℕ) (t then : List Sample) (q : Replied) where
   pub set-up-answers : (u : SetUp) (r : SetUpOutcome) → q ≡ setUpDone r → SFits w32 (u .keep) → SetsUp (setUpOf (u .mode) (toZ w32 (ofZ w32 (u .keep))) (u .instances)) (s .head) r ws after t then
-      → (ps is : List ℕ) → Unready s t → Answers (answering none (M.setUp (setUpMeant u))) q ps is after then
+      → (ps is : List ℕ) → Unready s t → Answers (answering none (M.setUp (setUpMeant u))) s ws t q ps is after then
   unfolding answering run
   set-up-answers u r e fits f′ ps is l = rw e (go (within (setUpMeant u)) refl)
     where
@@ -152,26 +156,26 @@ module _ (s : Session) (ws after : List ℕ) (t then : List Sample) (q : Replied
       f = rw (toZ-ofZ fits) at f′
 
       go : (b : Bool) → within (setUpMeant u) ≡ b
-          → Answers (cond b (record { answer = M.ok; then = some (fresh (keepOf (setUpMeant u)) (u .instances)) }) (refuse none 2)) (setUpDone r) ps is after then
+          → Answers (cond b (record { answer = M.ok; then = some (fresh (keepOf (setUpMeant u)) (u .instances)) }) (refuse none 2)) s ws t (setUpDone r) ps is after then
       go true w =
           let x = f .accepted (l .long) w in
-          rw (x .0) (record { says = refl; stands = record { ready = refl; good = good-run (setUpMeant u) w []; small = small-fresh (keepOf (setUpMeant u)) (u .instances); lies = x .1 } })
-      go false w = let x = f .out-of-bounds (l .long) w in rw (x .0) (record { says = refl; stands = record { unready = refl; long = rw (x .2) (l .long) } })
+          rw (x .0) (record { says = refl; stands = record { ready = refl; good = good-run (setUpMeant u) w []; small = small-fresh (keepOf (setUpMeant u)) (u .instances); lies = x .1 }; kept = tt })
+      go false w = let x = f .out-of-bounds (l .long) w in rw (x .0) (record { says = refl; stands = record { unready = refl; long = rw (x .2) (l .long) }; kept = (sym (ap (sessionOf (s .head)) (l .unready)), x .1, x .2) })
 
   pub add-answers : (a : Arrival) (w : List ℕ) (h : ℕ) (r : AddOutcome) → q ≡ addDone r → (h ≡ a .handle) × (a .handle < 2 ^ 32)
       → ((m : Model) → Good m → Lies m (s .head) ws t → Came (step m (Call.add (arrival (a .instance) w (a .«sequence_number») (a .time) (a .kind) h))) r after then)
-      → (m : Model) (ps is : List ℕ) → Ready m s ws t → Answers (answering (some m) (Call.add (arrivalMeant a w))) q ps is after then
+      → (m : Model) (ps is : List ℕ) → Ready m s ws t → Answers (answering (some m) (Call.add (arrivalMeant a w))) s ws t q ps is after then
   unfolding answering
   add-answers a w h r e k f m ps is l =
       let x : Came (step m (Call.add (arrivalMeant a w))) r after then = rw (k .0) at f m (l .good) (l .lies) in
       rw e
-      (record { says = add-says ps is _ (r .answer) (x .answer); stands = ready-made m s (sessionOf (r .head) true) ws after t then (Call.add (arrivalMeant a w)) l (k .1) refl (x .lies) })
+      (record { says = add-says ps is _ (r .answer) (x .answer); stands = ready-made m s (sessionOf (r .head) true) ws after t then (Call.add (arrivalMeant a w)) l (k .1) refl (x .lies); kept = tt })
 
   -- the words of the record were laid at the front of the list, which has room for those of any record
   pub list-answers : (taken b : Bool) (rec buf now′ was out : List ℕ) (n k : ℕ) (r : ListOutcome) → q ≡ listDone r
       → ((m : Model) → Good m → Lies m (s .head) ws t → list.Came (listing m b (take k now′) (placesIn was)) r after then was out) → taken ≡ b
-      → now′ ≡ laidIn buf (wordsIn rec) → n ≡ length (wordsIn rec) → length now′ ≡ length buf → (k ≤ length now′) × (n ≤ length now′ → k ≡ n) → length was ≡ 6912
-      → (m : Model) (ps : List ℕ) → length rec < 65536 → 8190 ≤ length buf → Ready m s ws t → Answers (answering (some m) (Call.list taken (listPairs rec) buffer)) q ps out after then
+      → now′ ≡ laidIn buf (wordsIn rec) → n ≡ length (wordsIn rec) → length now′ ≡ length buf → k ≡ atMost n (length now′) → length was ≡ 6912
+      → (m : Model) (ps : List ℕ) → length rec < 65536 → 8190 ≤ length buf → Ready m s ws t → Answers (answering (some m) (Call.list taken (listPairs rec) buffer)) s ws t q ps out after then
   unfolding answering
   list-answers taken b rec buf now′ was out n k r e f eb el en long ek room m ps h big l =
       let c : Call = Call.list b (listPairs rec) buffer in
@@ -181,29 +185,30 @@ module _ (s : Session) (ws after : List ℕ) (t then : List Sample) (q : Replied
       (record {
         says = list-says ps was out (step m c .answer) (r .answer) (x .answer) (small-answer m (l .good) (l .small) c);
         stands = ready-made m s (sessionOf (r .head) true) ws after t then c l tt refl (x .lies);
+        kept = tt;
       })
 
   pub choose-answers : (w : Within) (c : ReadCondition) (was out : List ℕ) (r : Chosen) (x : Reply) → x ≡ chooseSaid r → q ≡ said s x → length was ≡ 512
       → ((m : Model) → Good m → Lies m (s .head) ws t → select.Told (step m (Call.look (scopeOf w) c (length was / 2)) .answer) r was out)
-      → (m : Model) (is : List ℕ) → Ready m s ws t → Answers (answering (some m) (Call.look (scopeOf w) c buffer)) q out is ws t
+      → (m : Model) (is : List ℕ) → Ready m s ws t → Answers (answering (some m) (Call.look (scopeOf w) c buffer)) s ws t q out is ws t
   unfolding answering step
   choose-answers w c was out r x k e n f m is l =
       let y : select.Told (step m (Call.look (scopeOf w) c buffer) .answer) r was out = rw n at f m (l .good) (l .lies) in
-      rw (e, k) (record { says = choose-says is was out _ r y; stands = l })
+      rw (e, k) (record { says = choose-says is was out _ r y; stands = l; kept = tt })
 
   pub no-writers-answers : (i : ℕ) (r : cache-reply.Reply) (x : Reply) → x ≡ replySaid r → q ≡ said s x
       → ((m : Model) (t : List Sample) → Good m → Lies m (s .head) ws t → Dies (step m (Call.dies i)) r (s .head) after t)
-      → (m : Model) (t : List Sample) (ps is : List ℕ) → Ready m s ws t → Answers (answering (some m) (Call.dies i)) q ps is after t
+      → (m : Model) (t : List Sample) (ps is : List ℕ) → Ready m s ws t → Answers (answering (some m) (Call.dies i)) s ws t q ps is after t
   unfolding answering
   no-writers-answers i r x k e f m t ps is l =
       let y : Dies (step m (Call.dies i)) r (s .head) after t = f m t (l .good) (l .lies) in
       rw (e, k)
-      (record { says = reply-says ps is _ r (y .answer); stands = ready-made m s s ws after t t (Call.dies i) l tt (l .ready) (y .lies) })
+      (record { says = reply-says ps is _ r (y .answer); stands = ready-made m s s ws after t t (Call.dies i) l tt (l .ready) (y .lies); kept = tt })
 
   pub next-answers : (i : ℕ) (r : Next) (x : Reply) → x ≡ nextSaid r → q ≡ said s x
       → ((m : Model) (t : List Sample) → Good m → Lies m (s .head) ws t → step m (Call.after i) ≡ record { answer = nextAs r; then = m })
-      → (m : Model) (t : List Sample) (ps is : List ℕ) → Ready m s ws t → Answers (answering (some m) (Call.after i)) q ps is ws t
+      → (m : Model) (t : List Sample) (ps is : List ℕ) → Ready m s ws t → Answers (answering (some m) (Call.after i)) s ws t q ps is ws t
   unfolding answering
   next-answers i r x k e f m t ps is l =
       let y : step m (Call.after i) ≡ record { answer = nextAs r; then = m } = f m t (l .good) (l .lies) in
-      rw (e, k, y) (record { says = next-says ps is r; stands = l })
+      rw (e, k, y) (record { says = next-says ps is r; stands = l; kept = tt })

@@ -17,8 +17,8 @@ use Rattle.session.specs.declared.Answered.{Answered}
 
 pub responds : (s : Session) (ws after : List ℕ) (t then : List Sample) (rec ps is was line : List ℕ) (r : Replied) (x : Answered)
     → (x .session ≡ r .session) × ((a : Answer) → Says (r .reply) ps is a → Laid was 0 (printed a) line (x .size))
-    → ((st : Option Model) → length rec < 65536 → Stands st s ws t → Answers (turn st rec) r ps is after then)
-    → (st : Option Model) → length rec < 65536 → Stands st s ws t → Responds (turn st rec) x after then was line
+    → ((st : Option Model) → length rec < 65536 → Stands st s ws t → Answers (turn st rec) s ws t r ps is after then)
+    → (st : Option Model) → length rec < 65536 → Stands st s ws t → Responds (turn st rec) s ws t x after then was line
 responds s ws after t then rec ps is was line r x p f st h l =
-    let y : Answers (turn st rec) r ps is after then = f st h l in
-    record { lines = p .1 (turn st rec .answer) (y .says); stands = rw (p .0) (y .stands) }
+    let y : Answers (turn st rec) s ws t r ps is after then = f st h l in
+    record { lines = p .1 (turn st rec .answer) (y .says); stands = rw (p .0) (y .stands); kept = rw (p .0) (y .kept) }

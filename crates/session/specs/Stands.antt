@@ -39,12 +39,20 @@ pub record Standing (s : Session) (ws : List ℕ) (t : List Sample) : Type 0 whe
   pub what : Option Model
   pub stands : Stands what s ws t
 
--- the reply, with the pairs and the infos beside it, says the answer
-pub record Answers (u : Turn) (r : Replied) (ps is ws : List ℕ) (t : List Sample) : Type 0 where
+-- where nothing stands afterwards, all is as found: "Every refusal returns its number only; state and lent buffers stay as found." Where a cache stands,
+-- `Stands` says what lies there
+abbrev pub Kept : Option Model → Session → List ℕ → List Sample → Session → List ℕ → List Sample → Type 0
+Kept none s ws t s′ after then = (s′ ≡ s) × (after ≡ ws) × (then ≡ t)
+Kept (some m) s ws t s′ after then = Unit {0}
+
+-- the reply, with the pairs and the infos beside it, says the answer; s, ws and t are as found, after and then as left
+pub record Answers (u : Turn) (s : Session) (ws : List ℕ) (t : List Sample) (r : Replied) (ps is after : List ℕ) (then : List Sample) : Type 0 where
   pub says : Says (r .reply) ps is (u .answer)
-  pub stands : Stands (u .then) (r .session) ws t
+  pub stands : Stands (u .then) (r .session) after then
+  pub kept : Kept (u .then) s ws t (r .session) after then
 
 -- the lines of the answer stand first in the lent bytes, and the rest of them is as it was
-pub record Responds (u : Turn) (r : Answered) (ws : List ℕ) (t : List Sample) (was line : List ℕ) : Type 0 where
+pub record Responds (u : Turn) (s : Session) (ws : List ℕ) (t : List Sample) (r : Answered) (after : List ℕ) (then : List Sample) (was line : List ℕ) : Type 0 where
   pub lines : Laid was 0 (printed (u .answer)) line (r .size)
-  pub stands : Stands (u .then) (r .session) ws t
+  pub stands : Stands (u .then) (r .session) after then
+  pub kept : Kept (u .then) s ws t (r .session) after then

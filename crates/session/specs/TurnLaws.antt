@@ -20,7 +20,7 @@ use Rattle.records.specs.declared.Op.{Op}
 use Rattle.records.specs.declared.Op.the-variants as op
 use Rattle.records.specs.declared.Request.{Request}
 use Rattle.session.specs.Session.{answering, turnOf, turn, refuse}
-use Rattle.session.specs.Stands.{Stands, Answers}
+use Rattle.session.specs.Stands.{Stands, Kept, Answers}
 use Rattle.replies.specs.Steps.{declinedWith, isSetUp, same, refusalBy}
 use Rattle.replies.specs.declared.Session.{Session}
 use Rattle.replies.specs.declared.Replied.{Replied}
@@ -46,6 +46,10 @@ stood (some m) = true
 by-ready : (st : Option Model) (s : Session) (ws : List ℕ) (t : List Sample) → Stands st s ws t → s .ready ≡ stood st
 by-ready none s ws t l = l .unready
 by-ready (some m) s ws t l = l .ready
+
+kept-same : (st : Option Model) (s : Session) (ws : List ℕ) (t : List Sample) → Kept st s ws t s ws t
+kept-same none s ws t = (refl, refl, refl)
+kept-same (some m) s ws t = tt
 
 -- a set-up where there was one, or another call where there was none
 turn-ten : (st : Option Model) (o : Op) (w : List ℕ) (ps : List Pair) → bad (opMeant o w ps) ≡ false → same (isSetUp o) (stood st) ≡ true → turnOf st (opMeant o w ps) ≡ refuse st 10
@@ -90,13 +94,13 @@ module _ (s : Session) (ws : List ℕ) (t : List Sample) (rec : List ℕ) (q : R
   means : (o : Op) → q .op ≡ o → callOf rec ≡ opMeant o (q .writer) (listPairs rec)
   means o k = request-means rec ∙ rw (← k, e) refl
 
-  pub turn-declined : (n ≡ 0 → ⊥) → (r : Replied) → r ≡ declinedWith s n → (ps is : List ℕ) (st : Option Model) → length rec < 65536 → Stands st s ws t → Answers (turn st rec) r ps is ws t
+  pub turn-declined : (n ≡ 0 → ⊥) → (r : Replied) → r ≡ declinedWith s n → (ps is : List ℕ) (st : Option Model) → length rec < 65536 → Stands st s ws t → Answers (turn st rec) s ws t r ps is ws t
   turn-declined z r d ps is st h l = go (bad (callOf rec)) (same (isSetUp (requestOf rec .op)) (stood st)) (told st l) (number st l)
     where
-      by : (k : ℕ) → n ≡ k → Answers (refuse st k) r ps is ws t
-      by k g = rw (d, g) (record { says = refl; stands = l })
+      by : (k : ℕ) → n ≡ k → Answers (refuse st k) s ws t r ps is ws t
+      by k g = rw (d, g) (record { says = refl; stands = l; kept = kept-same st s ws t })
 
-      go : (b y : Bool) → turn st rec ≡ cond b (refuse st 1) (cond y (refuse st 10) (turn st rec)) → n ≡ cond b 1 (cond y 10 0) → Answers (turn st rec) r ps is ws t
+      go : (b y : Bool) → turn st rec ≡ cond b (refuse st 1) (cond y (refuse st 10) (turn st rec)) → n ≡ cond b 1 (cond y 10 0) → Answers (turn st rec) s ws t r ps is ws t
       go true y p g = rw p (by 1 g)
       go false true p g = rw p (by 10 g)
       go false false p g = absurd (z g)
@@ -114,50 +118,50 @@ module _ (s : Session) (ws : List ℕ) (t : List Sample) (rec : List ℕ) (q : R
   is-call z c st l k = rw k (turn-asked st c (rw k at (asked z st l .0)))
 
   module _ (z : n ≡ 0) (r : Replied) (after : List ℕ) (then : List Sample) (ps is : List ℕ) where
-    pub turn-set-up : (u : SetUp) → q .op ≡ op.SetUp u → ((ps is : List ℕ) → Stands none s ws t → Answers (answering none (M.setUp (setUpMeant u))) r ps is after then)
-        → (st : Option Model) → length rec < 65536 → Stands st s ws t → Answers (turn st rec) r ps is after then
+    pub turn-set-up : (u : SetUp) → q .op ≡ op.SetUp u → ((ps is : List ℕ) → Stands none s ws t → Answers (answering none (M.setUp (setUpMeant u))) s ws t r ps is after then)
+        → (st : Option Model) → length rec < 65536 → Stands st s ws t → Answers (turn st rec) s ws t r ps is after then
     turn-set-up u o g st h l = go st l (rw o at (asked z st l .1))
       where
-        go : (st : Option Model) → Stands st s ws t → same true (stood st) ≡ false → Answers (turn st rec) r ps is after then
+        go : (st : Option Model) → Stands st s ws t → same true (stood st) ≡ false → Answers (turn st rec) s ws t r ps is after then
         go none l k = rw (is-call z (M.setUp (setUpMeant u)) none l (means (op.SetUp u) o)) (g ps is l)
         go (some m) l k = no k
 
-    turn-call : (c : Call) → callOf rec ≡ some c → isSetUp (q .op) ≡ false → ((m : Model) → Stands (some m) s ws t → Answers (answering (some m) c) r ps is after then)
-        → (st : Option Model) → Stands st s ws t → Answers (turn st rec) r ps is after then
+    turn-call : (c : Call) → callOf rec ≡ some c → isSetUp (q .op) ≡ false → ((m : Model) → Stands (some m) s ws t → Answers (answering (some m) c) s ws t r ps is after then)
+        → (st : Option Model) → Stands st s ws t → Answers (turn st rec) s ws t r ps is after then
     turn-call c k o g st l = go st l (rw o at (asked z st l .1))
       where
-        go : (st : Option Model) → Stands st s ws t → same false (stood st) ≡ false → Answers (turn st rec) r ps is after then
+        go : (st : Option Model) → Stands st s ws t → same false (stood st) ≡ false → Answers (turn st rec) s ws t r ps is after then
         go none l y = no y
         go (some m) l y = rw (is-call z c (some m) l k) (g m l)
 
-    pub turn-add : (a : Arrival) → q .op ≡ op.Add a → ((m : Model) (ps is : List ℕ) → Stands (some m) s ws t → Answers (answering (some m) (M.add (arrivalMeant a (q .writer)))) r ps is after then)
-        → (st : Option Model) → length rec < 65536 → Stands st s ws t → Answers (turn st rec) r ps is after then
+    pub turn-add : (a : Arrival) → q .op ≡ op.Add a → ((m : Model) (ps is : List ℕ) → Stands (some m) s ws t → Answers (answering (some m) (M.add (arrivalMeant a (q .writer)))) s ws t r ps is after then)
+        → (st : Option Model) → length rec < 65536 → Stands st s ws t → Answers (turn st rec) s ws t r ps is after then
     turn-add a o g st h l = turn-call (M.add (arrivalMeant a (q .writer))) (means (op.Add a) o) (ap isSetUp o) (λ m. g m ps is) st l
 
-    pub turn-no-writers : (i : ℕ) → q .op ≡ op.NoWriters i → then ≡ t → ((m : Model) (t : List Sample) (ps is : List ℕ) → Stands (some m) s ws t → Answers (answering (some m) (M.dies i)) r ps is after t)
-        → (st : Option Model) → length rec < 65536 → Stands st s ws t → Answers (turn st rec) r ps is after then
+    pub turn-no-writers : (i : ℕ) → q .op ≡ op.NoWriters i → then ≡ t → ((m : Model) (t : List Sample) (ps is : List ℕ) → Stands (some m) s ws t → Answers (answering (some m) (M.dies i)) s ws t r ps is after t)
+        → (st : Option Model) → length rec < 65536 → Stands st s ws t → Answers (turn st rec) s ws t r ps is after then
     turn-no-writers i o same-table g st h l = turn-call (M.dies i) (means (op.NoWriters i) o) (ap isSetUp o) (λ m k. rw same-table (g m t ps is k)) st l
 
-    pub turn-next-key : (i : ℕ) → q .op ≡ op.NextKey i → after ≡ ws → then ≡ t → ((m : Model) (t : List Sample) (ps is : List ℕ) → Stands (some m) s ws t → Answers (answering (some m) (M.after i)) r ps is ws t)
-        → (st : Option Model) → length rec < 65536 → Stands st s ws t → Answers (turn st rec) r ps is after then
+    pub turn-next-key : (i : ℕ) → q .op ≡ op.NextKey i → after ≡ ws → then ≡ t → ((m : Model) (t : List Sample) (ps is : List ℕ) → Stands (some m) s ws t → Answers (answering (some m) (M.after i)) s ws t r ps is ws t)
+        → (st : Option Model) → length rec < 65536 → Stands st s ws t → Answers (turn st rec) s ws t r ps is after then
     turn-next-key i o same-words same-table g st h l = turn-call (M.after i) (means (op.NextKey i) o) (ap isSetUp o) (λ m k. rw (same-words, same-table) (g m t ps is k)) st l
 
-    pub turn-choose : (c : ReadCondition) → q .op ≡ op.Choose c → after ≡ ws → then ≡ t → ((m : Model) (is : List ℕ) → Stands (some m) s ws t → Answers (answering (some m) (M.look none c buffer)) r ps is ws t)
-        → (st : Option Model) → length rec < 65536 → Stands st s ws t → Answers (turn st rec) r ps is after then
+    pub turn-choose : (c : ReadCondition) → q .op ≡ op.Choose c → after ≡ ws → then ≡ t → ((m : Model) (is : List ℕ) → Stands (some m) s ws t → Answers (answering (some m) (M.look none c buffer)) s ws t r ps is ws t)
+        → (st : Option Model) → length rec < 65536 → Stands st s ws t → Answers (turn st rec) s ws t r ps is after then
     turn-choose c o same-words same-table g st h l = turn-call (M.look none c buffer) (means (op.Choose c) o) (ap isSetUp o) (λ m k. rw (same-words, same-table) (g m is k)) st l
 
-    pub turn-choose-within : (i : ℕ) (c : ReadCondition) → q .op ≡ op.ChooseWithin i c → after ≡ ws → then ≡ t → ((m : Model) (is : List ℕ) → Stands (some m) s ws t → Answers (answering (some m) (M.look (some i) c buffer)) r ps is ws t)
-        → (st : Option Model) → length rec < 65536 → Stands st s ws t → Answers (turn st rec) r ps is after then
+    pub turn-choose-within : (i : ℕ) (c : ReadCondition) → q .op ≡ op.ChooseWithin i c → after ≡ ws → then ≡ t → ((m : Model) (is : List ℕ) → Stands (some m) s ws t → Answers (answering (some m) (M.look (some i) c buffer)) s ws t r ps is ws t)
+        → (st : Option Model) → length rec < 65536 → Stands st s ws t → Answers (turn st rec) s ws t r ps is after then
     turn-choose-within i c o same-words same-table g st h l = turn-call (M.look (some i) c buffer) (means (op.ChooseWithin i c) o) (ap isSetUp o) (λ m k. rw (same-words, same-table) (g m is k)) st l
 
-    pub turn-read : (i : ℕ) (buf : List ℕ) → q .op ≡ op.Read i → ((m : Model) (ps : List ℕ) → length rec < 65536 → 8190 ≤ length buf → Stands (some m) s ws t → Answers (answering (some m) (M.list false (listPairs rec) buffer)) r ps is after then) → length buf ≡ 8190
-        → (st : Option Model) → length rec < 65536 → Stands st s ws t → Answers (turn st rec) r ps is after then
+    pub turn-read : (i : ℕ) (buf : List ℕ) → q .op ≡ op.Read i → ((m : Model) (ps : List ℕ) → length rec < 65536 → 8190 ≤ length buf → Stands (some m) s ws t → Answers (answering (some m) (M.list false (listPairs rec) buffer)) s ws t r ps is after then) → length buf ≡ 8190
+        → (st : Option Model) → length rec < 65536 → Stands st s ws t → Answers (turn st rec) s ws t r ps is after then
     turn-read i buf o g long st h l = turn-call (M.list false (listPairs rec) buffer) (means (op.Read i) o) (ap isSetUp o) (λ m. g m ps h (omega (arith, long))) st l
 
-    pub turn-take : (i : ℕ) (buf : List ℕ) → q .op ≡ op.Take i → ((m : Model) (ps : List ℕ) → length rec < 65536 → 8190 ≤ length buf → Stands (some m) s ws t → Answers (answering (some m) (M.list true (listPairs rec) buffer)) r ps is after then) → length buf ≡ 8190
-        → (st : Option Model) → length rec < 65536 → Stands st s ws t → Answers (turn st rec) r ps is after then
+    pub turn-take : (i : ℕ) (buf : List ℕ) → q .op ≡ op.Take i → ((m : Model) (ps : List ℕ) → length rec < 65536 → 8190 ≤ length buf → Stands (some m) s ws t → Answers (answering (some m) (M.list true (listPairs rec) buffer)) s ws t r ps is after then) → length buf ≡ 8190
+        → (st : Option Model) → length rec < 65536 → Stands st s ws t → Answers (turn st rec) s ws t r ps is after then
     turn-take i buf o g long st h l = turn-call (M.list true (listPairs rec) buffer) (means (op.Take i) o) (ap isSetUp o) (λ m. g m ps h (omega (arith, long))) st l
 
     -- a malformed record does not come this far
-    pub turn-malformed : q .op ≡ op.Malformed → (st : Option Model) → length rec < 65536 → Stands st s ws t → Answers (turn st rec) r ps is after then
+    pub turn-malformed : q .op ≡ op.Malformed → (st : Option Model) → length rec < 65536 → Stands st s ws t → Answers (turn st rec) s ws t r ps is after then
     turn-malformed o st h l = no (sym (ap bad (means op.Malformed o)) ∙ asked z st l .0)

@@ -13,9 +13,9 @@ ghost use Rattle.printing.specs.Printout as print;
 ghost use Rattle.printing.specs.Lines.{Laid};
 ghost use Rattle.answers.specs.Says.{Says};
 ghost use Rattle.select.specs.Choice.{scopeOf};
+ghost use Rattle.replies.specs.Steps.{starting};
 ghost use Rattle.session.specs.Session.{turn, answering};
 ghost use Rattle.session.specs.Stands.{Stands, Answers, Responds};
-ghost use mathlib.Core.Bool.{false};
 use replies::Replied;
 use replies::Session;
 
@@ -33,7 +33,7 @@ fn do_set_up(
     t: &mut [sampleinfo::Sample],
     u: records::SetUp,
 ) -> Replied
-    ensures { λ r. ⌜ ((ps is : List ℕ) → Stands Option.none s (now (ws .entry)) (now (t .entry)) → Answers (answering Option.none (model.setUp (setUpMeant u))) r ps is (now (ws .exit)) (now (t .exit))) ⌝ }
+    ensures { λ r. ⌜ ((ps is : List ℕ) → Stands Option.none s (now (ws .entry)) (now (t .entry)) → Answers (answering Option.none (model.setUp (setUpMeant u))) s (now (ws .entry)) (now (t .entry)) r ps is (now (ws .exit)) (now (t .exit))) ⌝ }
 {
     let head = s.head;
     let r = datasample_cache::set_up(head, ws, t, u.mode, u.keep, u.instances);
@@ -49,7 +49,7 @@ fn do_add(
     a: records::Arrival,
     writer: [u8; 16],
 ) -> Replied
-    ensures { λ r. ⌜ ((m : Model) (ps is : List ℕ) → Stands (Option.some m) s (now (ws .entry)) (now (t .entry)) → Answers (answering (Option.some m) (model.add (arrivalMeant a writer))) r ps is (now (ws .exit)) (now (t .exit))) ⌝ }
+    ensures { λ r. ⌜ ((m : Model) (ps is : List ℕ) → Stands (Option.some m) s (now (ws .entry)) (now (t .entry)) → Answers (answering (Option.some m) (model.add (arrivalMeant a writer))) s (now (ws .entry)) (now (t .entry)) r ps is (now (ws .exit)) (now (t .exit))) ⌝ }
 {
     let head = s.head;
     let handle = replies::bounded(a.handle);
@@ -77,7 +77,7 @@ fn do_choose(
     rc: readcondition::ReadCondition,
     pairs: &mut [u64; 512],
 ) -> Replied
-    ensures { λ r. ⌜ ((m : Model) (is : List ℕ) → Stands (Option.some m) s (now (ws .entry)) (now (t .entry)) → Answers (answering (Option.some m) (model.look (scopeOf within) rc buffer)) r (now (pairs .exit)) is (now (ws .entry)) (now (t .entry))) ⌝ }
+    ensures { λ r. ⌜ ((m : Model) (is : List ℕ) → Stands (Option.some m) s (now (ws .entry)) (now (t .entry)) → Answers (answering (Option.some m) (model.look (scopeOf within) rc buffer)) s (now (ws .entry)) (now (t .entry)) r (now (pairs .exit)) is (now (ws .entry)) (now (t .entry))) ⌝ }
 {
     let head = s.head;
     let r = datasample_select::choose(head, ws, t, within, rc, pairs);
@@ -98,7 +98,7 @@ fn do_list(
     list: &mut [u64],
     infos: &mut [u64; 6912],
 ) -> Replied
-    ensures { λ r. ⌜ ((m : Model) (ps : List ℕ) → length (now (rec .entry)) < 65536 → 8190 ≤ length (now (list .entry)) → Stands (Option.some m) s (now (ws .entry)) (now (t .entry)) → Answers (answering (Option.some m) (model.list take (listPairs (now (rec .entry))) buffer)) r ps (now (infos .exit)) (now (ws .exit)) (now (t .exit))) ⌝ }
+    ensures { λ r. ⌜ ((m : Model) (ps : List ℕ) → length (now (rec .entry)) < 65536 → 8190 ≤ length (now (list .entry)) → Stands (Option.some m) s (now (ws .entry)) (now (t .entry)) → Answers (answering (Option.some m) (model.list take (listPairs (now (rec .entry))) buffer)) s (now (ws .entry)) (now (t .entry)) r ps (now (infos .exit)) (now (ws .exit)) (now (t .exit))) ⌝ }
 {
     let head = s.head;
     let words = records::pairs_of(rec, list);
@@ -114,7 +114,7 @@ fn do_list(
 // ---- the no-writers event, and the next key
 
 fn do_no_writers(s: Session, ws: &mut [u64; 928], instance: u64) -> Replied
-    ensures { λ r. ⌜ ((m : Model) (t : List Sample) (ps is : List ℕ) → Stands (Option.some m) s (now (ws .entry)) t → Answers (answering (Option.some m) (model.dies instance)) r ps is (now (ws .exit)) t) ⌝ }
+    ensures { λ r. ⌜ ((m : Model) (t : List Sample) (ps is : List ℕ) → Stands (Option.some m) s (now (ws .entry)) t → Answers (answering (Option.some m) (model.dies instance)) s (now (ws .entry)) t r ps is (now (ws .exit)) t) ⌝ }
 {
     let head = s.head;
     let r = datasample_cache::no_writers(head, ws, instance);
@@ -125,7 +125,7 @@ fn do_no_writers(s: Session, ws: &mut [u64; 928], instance: u64) -> Replied
 }
 
 fn do_next_key(s: Session, ws: &[u64; 928], instance: u64) -> Replied
-    ensures { λ r. ⌜ ((m : Model) (t : List Sample) (ps is : List ℕ) → Stands (Option.some m) s (now (ws .entry)) t → Answers (answering (Option.some m) (model.after instance)) r ps is (now (ws .entry)) t) ⌝ }
+    ensures { λ r. ⌜ ((m : Model) (t : List Sample) (ps is : List ℕ) → Stands (Option.some m) s (now (ws .entry)) t → Answers (answering (Option.some m) (model.after instance)) s (now (ws .entry)) t r ps is (now (ws .entry)) t) ⌝ }
 {
     let head = s.head;
     let r = datasample_cache::next_key(head, ws, instance);
@@ -146,7 +146,7 @@ fn answer(
     pairs: &mut [u64; 512],
     infos: &mut [u64; 6912],
 ) -> Replied
-    ensures { λ r. ⌜ ((st : Option Model) → length (now (rec .entry)) < 65536 → Stands st s (now (ws .entry)) (now (t .entry)) → Answers (turn st (now (rec .entry))) r (now (pairs .exit)) (now (infos .exit)) (now (ws .exit)) (now (t .exit))) ⌝ }
+    ensures { λ r. ⌜ ((st : Option Model) → length (now (rec .entry)) < 65536 → Stands st s (now (ws .entry)) (now (t .entry)) → Answers (turn st (now (rec .entry))) s (now (ws .entry)) (now (t .entry)) r (now (pairs .exit)) (now (infos .exit)) (now (ws .exit)) (now (t .exit))) ⌝ }
 {
     let q = records::decode(rec);
     let n = replies::refusal(s, q);
@@ -198,7 +198,7 @@ pub fn respond(
     infos: &mut [u64; 6912],
     line: &mut [u8; 66048],
 ) -> Answered
-    ensures { λ r. ⌜ ((st : Option Model) → length (now (rec .entry)) < 65536 → Stands st s (now (ws .entry)) (now (t .entry)) → Responds (turn st (now (rec .entry))) r (now (ws .exit)) (now (t .exit)) (now (line .entry)) (now (line .exit))) ⌝ }
+    ensures { λ r. ⌜ ((st : Option Model) → length (now (rec .entry)) < 65536 → Stands st s (now (ws .entry)) (now (t .entry)) → Responds (turn st (now (rec .entry))) s (now (ws .entry)) (now (t .entry)) r (now (ws .exit)) (now (t .exit)) (now (line .entry)) (now (line .exit))) ⌝ }
 {
     let r = answer(s, ws, t, rec, list, pairs, infos);
     printed(r, pairs, infos, line)
@@ -206,7 +206,7 @@ pub fn respond(
 
 // Before the first record.
 pub fn start() -> Session
-    ensures { λ s. ⌜ s .ready ≡ false ⌝ }
+    ensures { λ s. ⌜ s ≡ starting ⌝ }
 {
     Session {
         head: index::Cache {
@@ -215,7 +215,9 @@ pub fn start() -> Session
             held: 0,
             last: keys::Last::Never,
             newest: 256,
-            free: slots::Free::all(),
+            free: slots::Free {
+                words: [0xFFFF_FFFF_FFFF_FFFF; 4],
+            },
         },
         ready: false,
     }

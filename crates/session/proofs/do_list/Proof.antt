@@ -1,7 +1,7 @@
 mod Lts
 mod Tie
 use borrow.Author.Needs.{needs}
-use Rattle.session.specs.CallLaws.{front-long, list-answers}
+use Rattle.session.specs.CallLaws.{front-long, front-there, list-answers}
 use Rattle.session.proofs.do_list.Statement.{statement}
 use Rattle.session.proofs.do_list.Proof.Tie as tie
 
@@ -12,7 +12,7 @@ at-most-requires : tie.Need-at-most-requires
 at-most-requires c κs = search needs
 
 slice-reshare-prefix-take-by-keys : tie.Need-slice-reshare-prefix-take-by-keys
-slice-reshare-prefix-take-by-keys c = search needs
+slice-reshare-prefix-take-by-keys c = search (needs, front-there)
 
 slice-aggregate-take-by-keys : tie.Need-slice-aggregate-take-by-keys
 slice-aggregate-take-by-keys c = front-long _ _ _ (c .before .before .before .before .at-most .ensures)
@@ -33,7 +33,7 @@ returns : tie.Need-returns
 returns c = list-answers _ _ _ _ _ _ _ _ (c .before .before .before .before .before .before .before .before .before .before .before .before .before .before .before .before .args .rec .now) _ _ _ _ _ _ _ (c .list-done .ensures) (c .before .before .take-by-keys .ensures .0) (c .before .before .before .before .before .before .before .if1 .taken) (c .before .before .before .before .before .before .before .before .before .before .before .pairs-of .ensures .1) (c .before .before .before .before .before .before .before .before .before .before .before .pairs-of .ensures .0) (search needs) (c .before .before .before .before .before .before .before .before .at-most .ensures) (search needs)
 
 slice-reshare-prefix-read-by-keys : tie.Need-slice-reshare-prefix-read-by-keys
-slice-reshare-prefix-read-by-keys c = search needs
+slice-reshare-prefix-read-by-keys c = search (needs, front-there)
 
 slice-aggregate-read-by-keys : tie.Need-slice-aggregate-read-by-keys
 slice-aggregate-read-by-keys c = front-long _ _ _ (c .before .before .before .before .at-most .ensures)
