@@ -1,6 +1,6 @@
 -- Reading and taking a list, on the store and on the words.
 use mathlib.Core.Path.{_≡_}
-use mathlib.Core.Bool.{Bool, cond}
+use mathlib.Core.Bool.{Bool, false, cond}
 use mathlib.Core.List.{List, [], _∷_, _++_}
 use Prim.Native.Nat.{ℕ, zero, suc, _+_, _-_, _*_}
 use lib.ListN.{length, getD, set, drop}
@@ -16,6 +16,8 @@ use Rattle.model.specs.Pairs.{Pair, repeats}
 use Rattle.pairs.specs.Flat.{pairsOf, wholePairs}
 use Rattle.store.specs.Store.{Store}
 use Rattle.index.specs.Words.{metasIn, ownersIn, metaAt, putMetaWord}
+use Rattle.index.specs.Memory.{Tied}
+use Rattle.index.specs.declared.Cache.{Cache}
 use Rattle.change.specs.Change.{freedAt}
 use Rattle.refine.specs.Lists.{slotsNamed, allSlots, viewedRows}
 use Rattle.infos.specs.Infos.{infoFrom}
@@ -59,6 +61,11 @@ slotsAfter s list slots =
 pub record Refuses (s : Store) (list : List ℕ) (room r : ℕ) (slots after : List ℕ) : Type 0 where
   pub number : r ≡ listRefusal s list room
   pub names : after ≡ slotsAfter s list slots
+
+-- on the memory of a store its refusal; 1 for a "key list not of whole pairs" on any memory
+pub record Judges (h : Cache) (ws list : List ℕ) (room r : ℕ) (slots after : List ℕ) : Type 0 where
+  pub tied : (s : Store) → length slots ≡ 256 → Tied s h ws → Refuses s list room r slots after
+  pub odd : wholePairs list ≡ false → r ≡ 1
 
 -- ---- what is shown
 

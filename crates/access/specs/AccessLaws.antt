@@ -1,6 +1,6 @@
 -- Reading and taking a list, as the code meets it.
 use mathlib.Core.Path.{_≡_, refl, sym, ap, _∙_}
-use mathlib.Core.Bool.{Bool, true, false, _&&_, not, cond}
+use mathlib.Core.Bool.{Bool, true, false, _&&_, not, cond, true≢false}
 use mathlib.Core.List.{List, [], _∷_, _++_}
 use Prim.Native.Nat.{ℕ, zero, suc, _+_, _-_, _*_, _/_, _≤_, _<_, min}
 use native.Mathlib.Nat.{le-of-suc-le-suc, not-suc-le-zero, sub-zero}
@@ -34,7 +34,7 @@ use Rattle.change.specs.Keeping.{tied-kept, fit-freed-at}
 use Rattle.refine.specs.Lists.{slotsNamed, allSlots, viewedRows}
 use Rattle.infos.specs.Infos.{infoFrom}
 use Rattle.infos.specs.Words.{putInfo}
-use Rattle.access.specs.Access.{slotAt, run, Found, listRefusal, slotsAfter, Refuses, lastCounts, noted, freedEach, viewedWord, viewedBy, settled}
+use Rattle.access.specs.Access.{slotAt, run, Found, listRefusal, slotsAfter, Refuses, Judges, lastCounts, noted, freedEach, viewedWord, viewedBy, settled}
 
 -- ---- the slots of a list
 
@@ -106,29 +106,33 @@ module _ (h : Cache) (ws list slots : List ℕ) (n i : ℕ) (now : List ℕ) (ok
 -- ---- the refusals
 
 module _ (h : Cache) (ws list slots : List ℕ) (room : ℕ) where
-  pub refuse-odd : (w : Bool) → w ≡ wholePairs list → not w ≡ true → (s : Store) → length slots ≡ 256 → Tied s h ws → Refuses s list room 1 slots slots
+  pub refuse-odd : (w : Bool) → w ≡ wholePairs list → not w ≡ true → Judges h ws list room 1 slots slots
   unfolding listRefusal slotsAfter
-  refuse-odd w e n s long t = (record { number = rw (sym e ∙ not-true w n); names = rw (sym e ∙ not-true w n) })
+  refuse-odd w e n = record { tied = λ s long t. record { number = rw (sym e ∙ not-true w n); names = rw (sym e ∙ not-true w n) }; odd = λ z. refl }
 
   module _ (w : Bool) (e : w ≡ wholePairs list) (n : not w ≡ false) where
     whole : wholePairs list ≡ true
     whole = sym e ∙ not-false w n
 
-    pub refuse-many : 256 < length list / 2 → (s : Store) → length slots ≡ 256 → Tied s h ws → Refuses s list room 8 slots slots
+    -- the list is of whole pairs
+    judged : (r : ℕ) (after : List ℕ) → ((s : Store) → length slots ≡ 256 → Tied s h ws → Refuses s list room r slots after) → Judges h ws list room r slots after
+    judged r after f = record { tied = f; odd = λ z. absurd (true≢false (sym whole ∙ z)) }
+
+    pub refuse-many : 256 < length list / 2 → Judges h ws list room 8 slots slots
     unfolding listRefusal slotsAfter
-    refuse-many l s long t =
+    refuse-many l = judged 8 slots (λ s long t.
         let b : ltb 256 (length (pairsOf list)) ≡ true = lt-ltb 256 (length (pairsOf list)) (omega (arith, length-pairs list)) in
-        record { number = rw (whole, b); names = rw (whole, b) }
+        record { number = rw (whole, b); names = rw (whole, b) })
 
     module _ (few : length list / 2 ≤ 256) where
       fits : ltb 256 (length (pairsOf list)) ≡ false
       fits = le-ltb 256 (length (pairsOf list)) (omega (arith, length-pairs list))
 
-      pub refuse-twice : (r : ℕ) → r ≡ firstRepeat (pairsOf list) → r < length list / 2 → (s : Store) → length slots ≡ 256 → Tied s h ws → Refuses s list room 8 slots slots
+      pub refuse-twice : (r : ℕ) → r ≡ firstRepeat (pairsOf list) → r < length list / 2 → Judges h ws list room 8 slots slots
       unfolding listRefusal slotsAfter
-      refuse-twice r q l s long t =
+      refuse-twice r q l = judged 8 slots (λ s long t.
           let b : repeats (pairsOf list) ≡ true = less-repeat (pairsOf list) (omega (arith, length-pairs list)) in
-          record { number = rw (whole, fits, b); names = rw (whole, fits, b) }
+          record { number = rw (whole, fits, b); names = rw (whole, fits, b) })
 
       module _ (r : ℕ) (q : r ≡ firstRepeat (pairsOf list)) (l : length list / 2 ≤ r) (ok : Bool) (after : List ℕ) (f : (z : Store) → length slots ≡ 256 → Tied z h ws → Found z (pairsOf list) ok slots after) where
         once : repeats (pairsOf list) ≡ false
@@ -138,27 +142,27 @@ module _ (h : Cache) (ws list slots : List ℕ) (room : ℕ) where
             go true y = absurd (omega (arith, length-pairs list, repeat-less (pairsOf list) y))
             go false y = refl
 
-        pub refuse-dead : not ok ≡ true → (s : Store) → length slots ≡ 256 → Tied s h ws → Refuses s list room 8 slots after
+        pub refuse-dead : not ok ≡ true → Judges h ws list room 8 slots after
         unfolding listRefusal slotsAfter
-        refuse-dead y s long t =
+        refuse-dead y = judged 8 after (λ s long t.
             let b : allSlots (slotsNamed s (pairsOf list)) ≡ false = sym (f s long t .all) ∙ not-true ok y in
-            record { number = rw (whole, fits, once, b); names = f s long t .names ∙ rw (whole, fits, once) }
+            record { number = rw (whole, fits, once, b); names = f s long t .names ∙ rw (whole, fits, once) })
 
         module _ (y : not ok ≡ false) where
           alive : (s : Store) → length slots ≡ 256 → Tied s h ws → allSlots (slotsNamed s (pairsOf list)) ≡ true
           alive s long t = sym (f s long t .all) ∙ not-false ok y
 
-          pub refuse-short : room < length list / 2 → (s : Store) → length slots ≡ 256 → Tied s h ws → Refuses s list room 9 slots after
+          pub refuse-short : room < length list / 2 → Judges h ws list room 9 slots after
           unfolding listRefusal slotsAfter
-          refuse-short k s long t =
+          refuse-short k = judged 9 after (λ s long t.
               let b : ltb room (length (pairsOf list)) ≡ true = lt-ltb room (length (pairsOf list)) (omega (arith, length-pairs list)) in
-              record { number = rw (whole, fits, once, alive s long t, b); names = f s long t .names ∙ rw (whole, fits, once) }
+              record { number = rw (whole, fits, once, alive s long t, b); names = f s long t .names ∙ rw (whole, fits, once) })
 
-          pub refuse-none : length list / 2 ≤ room → (s : Store) → length slots ≡ 256 → Tied s h ws → Refuses s list room 0 slots after
+          pub refuse-none : length list / 2 ≤ room → Judges h ws list room 0 slots after
           unfolding listRefusal slotsAfter
-          refuse-none k s long t =
+          refuse-none k = judged 0 after (λ s long t.
               let b : ltb room (length (pairsOf list)) ≡ false = le-ltb room (length (pairsOf list)) (omega (arith, length-pairs list)) in
-              record { number = rw (whole, fits, once, alive s long t, b); names = f s long t .names ∙ rw (whole, fits, once) }
+              record { number = rw (whole, fits, once, alive s long t, b); names = f s long t .names ∙ rw (whole, fits, once) })
 
 -- ---- what is shown
 

@@ -12,7 +12,7 @@ ghost use Rattle.index.specs.Words.{metasIn, ownersIn, metaAt};
 ghost use Rattle.index.specs.Memory.{Tied, Held};
 ghost use Rattle.infos.specs.Infos.{infoFrom};
 ghost use Rattle.infos.specs.Words.{putInfo};
-ghost use Rattle.access.specs.Access.{slotAt, run, Refuses, Found, noted, lastCounts, freedEach, viewedWord, viewedBy, settled};
+ghost use Rattle.access.specs.Access.{slotAt, run, Judges, Found, noted, lastCounts, freedEach, viewedWord, viewedBy, settled};
 use index::Cache;
 use sampleinfo::NotAliveGenerationCounts;
 use sampleinfo::Sample;
@@ -47,7 +47,7 @@ fn find_slots(h: Cache, ws: &[u64; 928], list: &[u64], n: usize, slots: &mut [u6
 
 // "Lists: 8, 9", after 1; 0 where the list is accepted, and then its slots stand first in `slots`. The room is in infos.
 pub fn refusal(h: Cache, ws: &[u64; 928], list: &[u64], room: usize, slots: &mut [u64; 256]) -> u64
-    ensures { λ r. ⌜ ((s : Store) → length (now (slots .entry)) ≡ 256 → Tied s h (now (ws .entry)) → Refuses s (now (list .entry)) room r (now (slots .entry)) (now (slots .exit))) ⌝ }
+    ensures { λ r. ⌜ Judges h (now (ws .entry)) (now (list .entry)) room r (now (slots .entry)) (now (slots .exit)) ⌝ }
 {
     if !pairs::whole(list) {
         return 1;

@@ -1,6 +1,6 @@
 -- What reading or taking a list answers and leaves, against the model's step.
 use mathlib.Core.Path.{_≡_}
-use mathlib.Core.Bool.{Bool, cond}
+use mathlib.Core.Bool.{Bool, false, cond}
 use mathlib.Core.List.{List, [], _∷_}
 use Prim.Native.Nat.{ℕ}
 use lib.ListN.{length, replicate}
@@ -42,6 +42,11 @@ pub record Came (st : Step) (r : ListOutcome) (ws : List ℕ) (t : List Sample) 
 
 abbrev pub notListed : Cache → ℕ → ListOutcome
 notListed h n = record { head = h; answer = listed.Refused n }
+
+-- refusal 1, whatever lies in memory: "sample table not 256 records, key list not of whole pairs"
+pub data Unfit (t : List Sample) (list : List ℕ) : Type 0 where
+  no-table : (length t ≡ 256 → ⊥) → Unfit t list
+  odd : wholePairs list ≡ false → Unfit t list
 
 abbrev pub listedWith : Cache → ℕ → ListOutcome
 listedWith h n = record { head = h; answer = listed.Infos n }

@@ -34,10 +34,10 @@ use Rattle.infos.specs.Words.{placesIn, putInfos, infosThen, wordsOfInfos}
 use Rattle.infos.specs.FlatLaws.{put-all}
 use Rattle.samples.specs.Table.{peekAt}
 use Rattle.memory.specs.Lies.{Lies, tied, table-long}
-use Rattle.access.specs.Access.{run, namedFirst, listRefusal, slotsAfter, Refuses, lastCounts, notedAll, infosBy, freedEach, settled}
+use Rattle.access.specs.Access.{run, namedFirst, listRefusal, slotsAfter, Refuses, Judges, lastCounts, notedAll, infosBy, freedEach, settled}
 use Rattle.datasample_access.specs.declared.Listed.the-variants as listed
 use Rattle.datasample_access.specs.declared.ListOutcome.{ListOutcome}
-use Rattle.datasample_access.specs.Listed.{Told, listing, Came, notListed, listedWith, touchedAll, Served}
+use Rattle.datasample_access.specs.Listed.{Told, listing, Came, notListed, Unfit, no-table, odd, listedWith, touchedAll, Served}
 use Rattle.datasample_access.specs.SlotLaws.{run-front, Owned, infos-slots, last-any, noted-all, zero-at, viewed-same, freed-each, touched-take, touched-read}
 use Rattle.datasample_access.specs.FewLaws.{few-pairs}
 
@@ -270,20 +270,20 @@ module _ (m : Model) (g : Good m) (h : Cache) (ws : List ℕ) (t : List Sample) 
 -- ---- as the code meets it
 
 module _ (h : Cache) (ws : List ℕ) (t : List Sample) (list out : List ℕ) (take : Bool) (room k : ℕ) (slots after : List ℕ)
-    (f : (z : Store) → length slots ≡ 256 → Tied z h ws → Refuses z list room k slots after) (long : slots ≡ replicate 256 0) (q : room ≡ placesIn out) where
+    (f : Judges h ws list room k slots after) (long : slots ≡ replicate 256 0) (q : room ≡ placesIn out) where
   full : length slots ≡ 256
   full = ap length long ∙ length-replicate {A = ℕ} 256 0
 
   pub came-declined : (k ≡ 0 → ⊥) → (r : ListOutcome) → r ≡ notListed h k → (m : Model) → Good m → Lies m h ws t → Came (listing m take list (placesIn out)) r ws t out out
   came-declined n r e m g l =
-      let x : k ≡ listRefusal (storeOf m) list room = f (storeOf m) full (tied m h ws t g l) .number in
+      let x : k ≡ listRefusal (storeOf m) list room = f .tied (storeOf m) full (tied m h ws t g l) .number in
       let st : listing m take list room ≡ refuse m (listRefusal (storeOf m) list room) = verdict m g take list room slots .0 (λ z. n (x ∙ z)) in
       rw (e, ← q, st, ← x) (record { answer = (refl, refl); lies = l })
 
   pub came-listed : k ≡ 0 → (head : Cache) (words : List ℕ) (table : List Sample) (end : List ℕ) → ((z : Store) → Tied z h ws → Served z take (length list / 2) after ws t out head words table end)
       → (r : ListOutcome) → r ≡ listedWith head (length list / 2) → (m : Model) → Good m → Lies m h ws t → Came (listing m take list (placesIn out)) r words table out end
   came-listed z head words table end v r e m g l =
-      let c : Refuses (storeOf m) list room k slots after = f (storeOf m) full (tied m h ws t g l) in
+      let c : Refuses (storeOf m) list room k slots after = f .tied (storeOf m) full (tied m h ws t g l) in
       let a : Accepts m g take list room slots = verdict m g take list room slots .1 (sym (c .number) ∙ z) in
       let sv : Served (storeOf m) take (length list / 2) (namedFirst (storeOf m) (pairsOf list) slots) ws t out head words table end = rw (c .names ∙ a .names) at (v (storeOf m) (tied m h ws t g l)) in
       rw (e, ← q, a .done)
@@ -293,3 +293,13 @@ module _ (h : Cache) (ws : List ℕ) (t : List Sample) (list out : List ℕ) (ta
 pub came-no-table : (h : Cache) (ws : List ℕ) (t : List Sample) (list out : List ℕ) (take : Bool) (r : ListOutcome) → (length t ≡ 256 → ⊥) → (m : Model) → Good m → Lies m h ws t
     → Came (listing m take list (placesIn out)) r ws t out out
 came-no-table h ws t list out take r n m g l = absurd (n (table-long m h ws t l))
+
+-- refusal 1 on any memory
+pub odd-declined : (h : Cache) (ws : List ℕ) (t : List Sample) (list out : List ℕ) (room k : ℕ) (slots after : List ℕ) (r : ListOutcome) → Judges h ws list room k slots after → r ≡ notListed h k
+    → length t ≡ 256 → Unfit t list → (r ≡ notListed h 1) × (ws ≡ ws) × (t ≡ t) × (out ≡ out)
+odd-declined h ws t list out room k slots after r f e long (no-table n) = absurd (n long)
+odd-declined h ws t list out room k slots after r f e long (odd w) = (e ∙ ap (notListed h) (f .odd w), refl, refl, refl)
+
+pub odd-not-served : (h : Cache) (ws : List ℕ) (t : List Sample) (list : List ℕ) (room k : ℕ) (slots after : List ℕ) (A : Type 0) → Judges h ws list room k slots after → k ≡ 0 → length t ≡ 256 → Unfit t list → A
+odd-not-served h ws t list room k slots after A f z long (no-table n) = absurd (n long)
+odd-not-served h ws t list room k slots after A f z long (odd w) = absurd (omega (arith, f .odd w, z))

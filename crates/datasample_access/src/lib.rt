@@ -8,7 +8,7 @@ ghost use Rattle.refine.specs.Good.{Good};
 ghost use Rattle.memory.specs.Lies.{Lies};
 ghost use Rattle.infos.specs.Words.{placesIn, putInfos};
 ghost use Rattle.access.specs.Access.{run, infosBy, notedAll};
-ghost use Rattle.datasample_access.specs.Listed.{touchedAll, Served, notListed, listedWith, listing, Came};
+ghost use Rattle.datasample_access.specs.Listed.{touchedAll, Served, notListed, Unfit, listedWith, listing, Came};
 ghost use mathlib.Core.Bool.{true, false};
 
 pub enum Listed {
@@ -112,7 +112,7 @@ fn by_keys(
     out: &mut [u64],
 ) -> ListOutcome
     ensures { λ r. ⌜ ((m : Model) → Good m → Lies m h (now (ws .entry)) (now (t .entry)) → Came (listing m take (now (list .entry)) (placesIn (now (out .entry)))) r (now (ws .exit)) (now (t .exit)) (now (out .entry)) (now (out .exit))) ⌝ }
-    ensures { λ r. ⌜ ((length (now (t .entry)) ≡ 256 → ⊥) → (r ≡ notListed h 1) × (now (ws .exit) ≡ now (ws .entry)) × (now (t .exit) ≡ now (t .entry)) × (now (out .exit) ≡ now (out .entry))) ⌝ }
+    ensures { λ r. ⌜ (Unfit (now (t .entry)) (now (list .entry)) → (r ≡ notListed h 1) × (now (ws .exit) ≡ now (ws .entry)) × (now (t .exit) ≡ now (t .entry)) × (now (out .exit) ≡ now (out .entry))) ⌝ }
 {
     if t.len() != 256 {
         return declined(h, 1);
@@ -137,7 +137,7 @@ pub fn read_by_keys(
     out: &mut [u64],
 ) -> ListOutcome
     ensures { λ r. ⌜ ((m : Model) → Good m → Lies m h (now (ws .entry)) (now (t .entry)) → Came (listing m false (now (list .entry)) (placesIn (now (out .entry)))) r (now (ws .exit)) (now (t .exit)) (now (out .entry)) (now (out .exit))) ⌝ }
-    ensures { λ r. ⌜ ((length (now (t .entry)) ≡ 256 → ⊥) → (r ≡ notListed h 1) × (now (ws .exit) ≡ now (ws .entry)) × (now (t .exit) ≡ now (t .entry)) × (now (out .exit) ≡ now (out .entry))) ⌝ }
+    ensures { λ r. ⌜ (Unfit (now (t .entry)) (now (list .entry)) → (r ≡ notListed h 1) × (now (ws .exit) ≡ now (ws .entry)) × (now (t .exit) ≡ now (t .entry)) × (now (out .exit) ≡ now (out .entry))) ⌝ }
 {
     by_keys(h, ws, t, list, false, out)
 }
@@ -151,7 +151,7 @@ pub fn take_by_keys(
     out: &mut [u64],
 ) -> ListOutcome
     ensures { λ r. ⌜ ((m : Model) → Good m → Lies m h (now (ws .entry)) (now (t .entry)) → Came (listing m true (now (list .entry)) (placesIn (now (out .entry)))) r (now (ws .exit)) (now (t .exit)) (now (out .entry)) (now (out .exit))) ⌝ }
-    ensures { λ r. ⌜ ((length (now (t .entry)) ≡ 256 → ⊥) → (r ≡ notListed h 1) × (now (ws .exit) ≡ now (ws .entry)) × (now (t .exit) ≡ now (t .entry)) × (now (out .exit) ≡ now (out .entry))) ⌝ }
+    ensures { λ r. ⌜ (Unfit (now (t .entry)) (now (list .entry)) → (r ≡ notListed h 1) × (now (ws .exit) ≡ now (ws .entry)) × (now (t .exit) ≡ now (t .entry)) × (now (out .exit) ≡ now (out .entry))) ⌝ }
 {
     by_keys(h, ws, t, list, true, out)
 }

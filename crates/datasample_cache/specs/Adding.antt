@@ -1,6 +1,6 @@
 -- An add worked out on numbers, and what is left to do to the table.
 use mathlib.Core.Path.{_≡_}
-use mathlib.Core.Bool.{Bool, _&&_, cond}
+use mathlib.Core.Bool.{Bool, false, _&&_, cond}
 use mathlib.Core.List.{List}
 use Prim.Native.Nat.{ℕ, _^_}
 use lib.Dec.{leb, ltb, eqb}
@@ -10,7 +10,8 @@ use Rattle.sampleinfo.specs.declared.Body.the-variants.{Value, Dispose}
 use Rattle.sampleinfo.specs.declared.NotAliveGenerationCounts.{NotAliveGenerationCounts}
 use Rattle.model.specs.Model.{Arrival, wellFormed}
 use Rattle.store.specs.Store.{Store, Said, refused, added, Step, adding, declined}
-use Rattle.index.specs.Memory.{headOf, shown, indexOf}
+use Rattle.index.specs.Memory.{Tied, headOf, shown, indexOf}
+use Rattle.index.specs.declared.Cache.{Cache}
 use Rattle.refine.specs.Answers.{wantedOf}
 use Rattle.datasample_cache.specs.declared.Decision.{Decision}
 
@@ -52,3 +53,8 @@ pub record Decided (st : Step) (r : Decision) (ws : List ℕ) : Type 0 where
   pub head : shown (r .head) ≡ headOf (st .then)
   pub words : ws ≡ indexOf (st .then)
   pub drawn : drawnOf r ≡ drawnBy (st .said)
+
+-- an add of these numbers, whatever its writer (w), which decides nothing: on the memory of a store its step, and 1 on any memory
+pub record Decides (h : Cache) (ws : List ℕ) (n q t k x : ℕ) (r : Decision) (after : List ℕ) : Type 0 where
+  pub tied : (s : Store) (w : List ℕ) → Tied s h ws → Decided (deciding s (arrival n w q t k x)) r after
+  pub unfit : (w : List ℕ) → wellFormed (arrival n w q t k x) ≡ false → (r .head ≡ h) × (drawnOf r ≡ drawnNone 1) × (after ≡ ws)

@@ -1,6 +1,6 @@
 -- The decision of an add, as the code meets it.
 use mathlib.Core.Path.{_≡_, refl, sym, ap, _∙_}
-use mathlib.Core.Bool.{Bool, true, false, not, _&&_, _||_, cond, and-false}
+use mathlib.Core.Bool.{Bool, true, false, not, _&&_, _||_, cond, and-false, true≢false}
 use mathlib.Core.List.{List}
 use Prim.Native.Nat.{ℕ, _≤_, _<_, _^_}
 use native.Mathlib.Omega.{arith}
@@ -24,7 +24,7 @@ use Rattle.plan.specs.declared.Answer.{Answer}
 use Rattle.plan.specs.declared.Answer.the-variants as answer
 use Rattle.refine.specs.Answers.{wantedOf}
 use Rattle.datasample_cache.specs.declared.Decision.{Decision}
-use Rattle.datasample_cache.specs.Adding.{arrival, seqFits, bodyFor, deciding, drawnOf, drawnNone, drawnBy, Decided}
+use Rattle.datasample_cache.specs.Adding.{arrival, seqFits, bodyFor, deciding, drawnOf, drawnNone, drawnBy, Decided, Decides}
 
 -- ---- the sequence number
 
@@ -72,23 +72,32 @@ module _ (a : Arrival) where
 
 -- ---- the returns
 
-module _ (a : Arrival) (h : Cache) (ws : List ℕ) (s : Store) (t : Tied s h ws) (r : Decision) where
-  unfit : wellFormed a ≡ false → (r .head ≡ h) × (drawnOf r ≡ drawnNone 1) → Decided (deciding s a) r ws
+module _ (h : Cache) (ws : List ℕ) (n q t k x : ℕ) (r : Decision) where
+  abbrev arrives : List ℕ → Arrival
+  arrives w = arrival n w q t k x
+
+  none-drawn : ((w : List ℕ) → wellFormed (arrives w) ≡ false) → (r .head ≡ h) × (drawnOf r ≡ drawnNone 1) → Decides h ws n q t k x r ws
   unfolding deciding
-  unfit w d = rw w (record { head = ap shown (d .0) ∙ t .head; words = t .words; drawn = d .1 })
+  none-drawn f d = record {
+    tied = λ s w tied. rw (f w) (record { head = ap shown (d .0) ∙ tied .head; words = tied .words; drawn = d .1 });
+    unfit = λ w e. (d .0, d .1, refl);
+  }
 
-  pub decide-unfit : (x : Bool) → x ≡ seqFits (a .seq) → not x ≡ true → (r .head ≡ h) × (drawnOf r ≡ drawnNone 1) → Decided (deciding s a) r ws
-  decide-unfit x e q d = unfit (unfit-seq a (sym e ∙ not-true x q)) d
+  pub decide-unfit : (y : Bool) → y ≡ seqFits q → not y ≡ true → (r .head ≡ h) × (drawnOf r ≡ drawnNone 1) → Decides h ws n q t k x r ws
+  decide-unfit y e p d = none-drawn (λ w. unfit-seq (arrives w) (sym e ∙ not-true y p)) d
 
-  pub decide-kind : (b : BodyMade) → b ≡ bodyOf (a .kind) (a .handle) → b ≡ made.Refused → (r .head ≡ h) × (drawnOf r ≡ drawnNone 1) → Decided (deciding s a) r ws
-  decide-kind b e q d = unfit (unfit-kind a (sym e ∙ q)) d
+  pub decide-kind : (b : BodyMade) → b ≡ bodyOf k x → b ≡ made.Refused → (r .head ≡ h) × (drawnOf r ≡ drawnNone 1) → Decides h ws n q t k x r ws
+  decide-kind b e p d = none-drawn (λ w. unfit-kind (arrives w) (sym e ∙ p)) d
 
-  pub decide-made : (x : Bool) (bm : BodyMade) (b : Body) (st : InstanceState) (after : List ℕ) → ((z : Store) → Tied z h ws → Decided (adding z (wanted (a .name) (a .time) st)) r after)
-      → st ≡ madeBy b → bm ≡ made.Body b → bm ≡ bodyOf (a .kind) (a .handle) → x ≡ seqFits (a .seq) → not x ≡ false → Decided (deciding s a) r after
+  pub decide-made : (y : Bool) (bm : BodyMade) (b : Body) (st : InstanceState) (after : List ℕ) → ((z : Store) → Tied z h ws → Decided (adding z (wanted n t st)) r after)
+      → st ≡ madeBy b → bm ≡ made.Body b → bm ≡ bodyOf k x → y ≡ seqFits q → not y ≡ false → Decides h ws n q t k x r after
   unfolding deciding
-  decide-made x bm b st after m se bq be e n =
-      let is-body : b ≡ bodyIn a = body-is a b (sym be ∙ bq) in
-      rw (fit a b (sym e ∙ not-false x n) (sym be ∙ bq)) (rw (se ∙ ap madeBy is-body) at (m s t))
+  decide-made y bm b st after m se bq be e p =
+      let whole : (w : List ℕ) → wellFormed (arrives w) ≡ true = λ w. fit (arrives w) b (sym e ∙ not-false y p) (sym be ∙ bq) in
+      record {
+        tied = λ s w tied. rw (whole w) (rw (se ∙ ap madeBy (body-is (arrives w) b (sym be ∙ bq))) at (m s tied));
+        unfit = λ w f. absurd (true≢false (sym (whole w) ∙ f));
+      }
 
 module _ (h : Cache) (ws : List ℕ) (w : Wanted) (o : Outcome) (after : List ℕ) (s : Store) where
   pub plan-refused : (r : Decision) (k : ℕ) → (r .head ≡ o .head) × (drawnOf r ≡ drawnNone k) → o .answer ≡ answer.Refused k → ((z : Store) → Tied z h ws → Made (adding z w) o after) → Tied s h ws → Decided (adding s w) r after

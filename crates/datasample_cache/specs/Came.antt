@@ -1,13 +1,14 @@
 -- What an add answers and leaves, against the model's step.
 use mathlib.Core.Path.{_≡_}
-use mathlib.Core.Bool.{cond}
+use mathlib.Core.Bool.{false, cond}
 use mathlib.Core.List.{List}
 use mathlib.Core.Option.{Option, some, none}
 use Prim.Native.Nat.{ℕ}
 use lib.Dec.{ltb, eqb}
+use lib.ListN.{length}
 use Rattle.sampleinfo.specs.States.{handleOf}
 use Rattle.sampleinfo.specs.declared.Sample.{Sample}
-use Rattle.model.specs.Model.{Answer, refused, added, Step}
+use Rattle.model.specs.Model.{Answer, Arrival, refused, added, Step, wellFormed}
 use Rattle.index.specs.declared.Cache.{Cache}
 use Rattle.memory.specs.Lies.{Lies}
 use Rattle.datasample_cache.specs.declared.Decision.{Decision}
@@ -42,6 +43,10 @@ outcome h x = record { head = h; answer = x }
 abbrev pub finishedBy : Decision → Sample → AddOutcome
 finishedBy d s = outcome (d .head) (cond (eqb (d .refusal) 0) (added′.Added (d .key) (d .slot) (evictedOf (d .old) s)) (added′.Refused (d .refusal)))
 
--- refusal 1: "sample table not 256 records"
-abbrev pub notATable : Cache → AddOutcome
-notATable h = outcome h (added′.Refused 1)
+-- refusal 1, whatever lies in memory: "kind not 1 or 2, sequence number out of range, .. sample table not 256 records"
+pub data Unfit (t : List Sample) (a : Arrival) : Type 0 where
+  no-table : (length t ≡ 256 → ⊥) → Unfit t a
+  malformed : wellFormed a ≡ false → Unfit t a
+
+abbrev pub notAdded : Cache → AddOutcome
+notAdded h = outcome h (added′.Refused 1)

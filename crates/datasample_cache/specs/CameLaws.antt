@@ -33,8 +33,8 @@ use Rattle.datasample_cache.specs.declared.Evicted.{Evicted}
 use Rattle.datasample_cache.specs.declared.Evicted.the-variants as evicted′
 use Rattle.datasample_cache.specs.declared.Added.the-variants as added′
 use Rattle.datasample_cache.specs.declared.AddOutcome.{AddOutcome}
-use Rattle.datasample_cache.specs.Adding.{deciding, Drawn, drawnOf, drawnBy, Decided}
-use Rattle.datasample_cache.specs.Came.{evictedAs, addedAs, Came, evictedOf, finishedBy}
+use Rattle.datasample_cache.specs.Adding.{deciding, Drawn, drawnOf, drawnBy, Decided, Decides}
+use Rattle.datasample_cache.specs.Came.{evictedAs, addedAs, Came, evictedOf, finishedBy, Unfit, no-table, malformed, notAdded}
 
 pub evicted-one : (old h : ℕ) (s : Sample) → h ≡ handleOf (s .body) → old < 256 → evicted′.Handle h ≡ evictedOf old s
 evicted-one old h s e l = rw (e, lt-ltb old 256 l)
@@ -144,11 +144,19 @@ module _ (m : Model) (g : Good m) (a : Arrival) (h : Cache) (ws : List ℕ) (t :
       go false w = came-unfit w (rw w at dec)
 
 pub came-add : (a : Arrival) (h : Cache) (ws after : List ℕ) (t u : List Sample) (d : Decision) (s out : Sample) (r : AddOutcome)
-    → ((x : Store) (w : List ℕ) → Tied x h ws → Decided (deciding x (record { name = a .name; writer = w; seq = a .seq; time = a .time; kind = a .kind; handle = a .handle })) d after)
+    → Decides h ws (a .name) (a .seq) (a .time) (a .kind) (a .handle) d after
     → s ≡ unread (d .counts) (a .writer) (a .seq) (bodyIn a) → out ≡ peekAt t (d .old) → u ≡ swapped t (d .old) (d .slot) s → r ≡ finishedBy d out
     → (m : Model) → Good m → Lies m h ws t → Came (step m (M.add a)) r after u
 came-add a h ws after t u d s out r dec rec was tab fin m g l =
-    rw (tab, fin) (came-step m g a h ws t l d after s out rec was (dec (storeOf m) (a .writer) (tied m h ws t g l)))
+    rw (tab, fin) (came-step m g a h ws t l d after s out rec was (dec .tied (storeOf m) (a .writer) (tied m h ws t g l)))
 
 pub came-no-table : (a : Arrival) (h : Cache) (ws : List ℕ) (t : List Sample) (r : AddOutcome) → (length t ≡ 256 → ⊥) → (m : Model) → Good m → Lies m h ws t → Came (step m (M.add a)) r ws t
 came-no-table a h ws t r n m g l = absurd (n (table-long m h ws t l))
+
+-- refusal 1 on any memory: the decision draws nothing, so that header, words and table are as found
+pub unfit-left : (a : Arrival) (h : Cache) (ws after : List ℕ) (t u : List Sample) (d : Decision) (s out : Sample) (r : AddOutcome) → Decides h ws (a .name) (a .seq) (a .time) (a .kind) (a .handle) d after
+    → out ≡ peekAt t (d .old) → u ≡ swapped t (d .old) (d .slot) s → r ≡ finishedBy d out → length t ≡ 256 → Unfit t a → (r ≡ notAdded h) × (after ≡ ws) × (u ≡ t)
+unfit-left a h ws after t u d s out r dec was tab fin long (no-table n) = absurd (n long)
+unfit-left a h ws after t u d s out r dec was tab fin long (malformed w) =
+    let x : (d .head ≡ h) × (drawnOf d ≡ drawnBy (S.refused 1)) × (after ≡ ws) = dec .unfit (a .writer) w in
+    (rw (fin, drawn-refusal d 1 0 256 256 counts.zero (x .1), x .0) refl, x .2, tab ∙ table-kept t 1 d s long (x .1))

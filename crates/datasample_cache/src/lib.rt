@@ -17,8 +17,8 @@ ghost use Rattle.sampleinfo.specs.declared.Sample.{Sample};
 ghost use Rattle.store.specs.Fit.{depthOf};
 ghost use Rattle.index.specs.Memory.{freshStore};
 ghost use Rattle.datasample_cache.specs.Others.{nextAs, setUpOf, depthFor, keptIn, withinBy, notSetUp, Begun, SetsUp, Dies};
-ghost use Rattle.datasample_cache.specs.Came.{Came, evictedOf, finishedBy, notATable};
-ghost use Rattle.datasample_cache.specs.Adding.{Decided, deciding, arrival, seqFits, bodyFor, drawnOf, drawnNone};
+ghost use Rattle.datasample_cache.specs.Came.{Came, evictedOf, finishedBy, Unfit, notAdded};
+ghost use Rattle.datasample_cache.specs.Adding.{Decided, Decides, arrival, seqFits, bodyFor, drawnOf, drawnNone};
 
 pub enum Evicted {
     Handle(u32),
@@ -123,7 +123,7 @@ fn decide(
     kind: u8,
     handle: u32,
 ) -> Decision
-    ensures { λ r. ⌜ ((s : Store) (w : List ℕ) → Tied s h (now (ws .entry)) → Decided (deciding s (arrival instance w «sequence_number» time kind handle)) r (now (ws .exit))) ⌝ }
+    ensures { λ r. ⌜ Decides h (now (ws .entry)) instance «sequence_number» time kind handle r (now (ws .exit)) ⌝ }
 {
     if !in_range(sequence_number) {
         return declined(h, 1);
@@ -185,7 +185,7 @@ fn finish(d: Decision, out: sampleinfo::Sample) -> AddOutcome
 }
 
 fn not_a_table(h: index::Cache) -> AddOutcome
-    ensures { λ r. ⌜ r ≡ notATable h ⌝ }
+    ensures { λ r. ⌜ r ≡ notAdded h ⌝ }
 {
     AddOutcome {
         head: h,
@@ -206,7 +206,7 @@ pub fn add(
     handle: u32,
 ) -> AddOutcome
     ensures { λ r. ⌜ ((m : Model) → Good m → Lies m h (now (ws .entry)) (now (t .entry)) → Came (step m (Call.add (arrival instance «writer_guid» «sequence_number» time kind handle))) r (now (ws .exit)) (now (t .exit))) ⌝ }
-    ensures { λ r. ⌜ ((length (now (t .entry)) ≡ 256 → ⊥) → (r ≡ notATable h) × (now (ws .exit) ≡ now (ws .entry)) × (now (t .exit) ≡ now (t .entry))) ⌝ }
+    ensures { λ r. ⌜ (Unfit (now (t .entry)) (arrival instance «writer_guid» «sequence_number» time kind handle) → (r ≡ notAdded h) × (now (ws .exit) ≡ now (ws .entry)) × (now (t .exit) ≡ now (t .entry))) ⌝ }
 {
     if t.len() != 256 {
         return not_a_table(h);

@@ -25,6 +25,9 @@ use Rattle.select.specs.Ordered.{insertAll}
 use Rattle.select.specs.OrderedLaws.{length-all}
 use Rattle.select.specs.Told.{selecting, Told}
 use Rattle.select.specs.declared.Chosen.{Chosen}
+use Rattle.select.specs.declared.Chosen.the-variants as chosen
+use Rattle.pairs.specs.Flat.{pairWords}
+use Rattle.datasample_select.specs.Choose.{Unfit, no-table, beyond, notChosen}
 use Rattle.datasample_select.specs.SeenLaws.{gathered-seen}
 use Rattle.datasample_select.specs.Slots.{slots-sorted}
 
@@ -51,3 +54,16 @@ choose-done h ws seen l t c w r was out told e long m g lies =
 pub choose-no-table : (h : Cache) (ws : List ℕ) (t : List Sample) (c : ReadCondition) (w : Option ℕ) (room : ℕ) (r : Chosen) (was : List ℕ)
     → (length t ≡ 256 → ⊥) → (m : Model) → Good m → Lies m h ws t → Told (step m (look w c room) .answer) r was was
 choose-no-table h ws t c w room r was n m g lies = absurd (n (table-long m h ws t lies))
+
+-- a choice that is refused writes nothing
+told-refused : (n : ℕ) (r : Chosen) (was out : List ℕ) → Told (refused n) r was out → (r ≡ chosen.Refused n) × (out ≡ was)
+unfolding pairWords
+told-refused n (chosen.Selected k) was out x = let z : _≡_ {A = ℕ} 0 1 = cc (x .answer) in absurd (omega arith)
+told-refused n (chosen.Refused k) was out x = let e : k ≡ n = cc (x .answer) in (ap chosen.Refused e, x .buffer)
+
+-- refusal 1 on any memory
+pub choose-unfit : (hs : List Hit) (t : List Sample) (c : ReadCondition) (room : ℕ) (r : Chosen) (was out : List ℕ) → Told (selecting c hs room) r was out → length t ≡ 256
+    → Unfit t c → (r ≡ notChosen) × (out ≡ was)
+unfolding selecting
+choose-unfit hs t c room r was out x long (no-table n) = absurd (n long)
+choose-unfit hs t c room r was out x long (beyond e) = told-refused 1 r was out (rw e at x)

@@ -8,10 +8,10 @@ ghost use Rattle.refine.specs.Good.{Good};
 ghost use Rattle.memory.specs.Lies.{Lies};
 ghost use Rattle.select.specs.Choice.{scopeOf};
 ghost use Rattle.select.specs.Told.{Told};
-ghost use Rattle.datasample_select.specs.Choose.{notATable};
+ghost use Rattle.datasample_select.specs.Choose.{Unfit, notChosen};
 
 fn not_a_table() -> select::Chosen
-    ensures { λ r. ⌜ r ≡ notATable ⌝ }
+    ensures { λ r. ⌜ r ≡ notChosen ⌝ }
 {
     select::Chosen::Refused(1)
 }
@@ -26,7 +26,7 @@ pub fn choose(
     out: &mut [u64],
 ) -> select::Chosen
     ensures { λ r. ⌜ ((m : Model) → Good m → Lies m h (now (ws .entry)) (now (t .entry)) → Told (step m (Call.look (scopeOf within) rc (length (now (out .entry)) / 2)) .answer) r (now (out .entry)) (now (out .exit))) ⌝ }
-    ensures { λ r. ⌜ ((length (now (t .entry)) ≡ 256 → ⊥) → (r ≡ notATable) × (now (out .exit) ≡ now (out .entry))) ⌝ }
+    ensures { λ r. ⌜ (Unfit (now (t .entry)) rc → (r ≡ notChosen) × (now (out .exit) ≡ now (out .entry))) ⌝ }
 {
     if t.len() != 256 {
         return not_a_table();
@@ -46,7 +46,7 @@ pub fn choose_within(
     out: &mut [u64],
 ) -> select::Chosen
     ensures { λ r. ⌜ ((m : Model) → Good m → Lies m h (now (ws .entry)) (now (t .entry)) → Told (step m (Call.look (some instance) rc (length (now (out .entry)) / 2)) .answer) r (now (out .entry)) (now (out .exit))) ⌝ }
-    ensures { λ r. ⌜ ((length (now (t .entry)) ≡ 256 → ⊥) → (r ≡ notATable) × (now (out .exit) ≡ now (out .entry))) ⌝ }
+    ensures { λ r. ⌜ (Unfit (now (t .entry)) rc → (r ≡ notChosen) × (now (out .exit) ≡ now (out .entry))) ⌝ }
 {
     choose(h, ws, t, select::Within::Instance(instance), rc, out)
 }

@@ -20,7 +20,7 @@ use Rattle.records.specs.declared.Op.{Op}
 use Rattle.records.specs.declared.Op.the-variants as op
 use Rattle.records.specs.declared.Request.{Request}
 use Rattle.session.specs.Session.{answering, turnOf, turn, refuse}
-use Rattle.session.specs.Stands.{Stands, Kept, Answers}
+use Rattle.session.specs.Stands.{Stands, Kept, Answers, Turns}
 use Rattle.replies.specs.Steps.{declinedWith, isSetUp, same, refusalBy}
 use Rattle.replies.specs.declared.Session.{Session}
 use Rattle.replies.specs.declared.Replied.{Replied}
@@ -39,11 +39,11 @@ turn-asked st c h = rw h refl
 no : {A : Type 0} → true ≡ false → A
 no e = absurd (subst (λ b. cond b (Unit {0}) ⊥) e tt)
 
-abbrev stood : Option Model → Bool
-stood none = false
-stood (some m) = true
+abbrev isReady : Option Model → Bool
+isReady none = false
+isReady (some m) = true
 
-by-ready : (st : Option Model) (s : Session) (ws : List ℕ) (t : List Sample) → Stands st s ws t → s .ready ≡ stood st
+by-ready : (st : Option Model) (s : Session) (ws : List ℕ) (t : List Sample) → Stands st s ws t → s .ready ≡ isReady st
 by-ready none s ws t l = l .unready
 by-ready (some m) s ws t l = l .ready
 
@@ -52,7 +52,7 @@ kept-same none s ws t = (refl, refl, refl)
 kept-same (some m) s ws t = tt
 
 -- a set-up where there was one, or another call where there was none
-turn-ten : (st : Option Model) (o : Op) (w : List ℕ) (ps : List Pair) → bad (opMeant o w ps) ≡ false → same (isSetUp o) (stood st) ≡ true → turnOf st (opMeant o w ps) ≡ refuse st 10
+turn-ten : (st : Option Model) (o : Op) (w : List ℕ) (ps : List Pair) → bad (opMeant o w ps) ≡ false → same (isSetUp o) (isReady st) ≡ true → turnOf st (opMeant o w ps) ≡ refuse st 10
 unfolding turnOf answering
 turn-ten none (op.SetUp u) w ps b k = no (sym k)
 turn-ten none (op.Add a) w ps b k = rw b refl
@@ -75,18 +75,18 @@ turn-ten (some m) op.Malformed w ps b k = no b
 
 module _ (s : Session) (ws : List ℕ) (t : List Sample) (rec : List ℕ) (q : Request) (n : ℕ) (e : q ≡ requestOf rec) (f : n ≡ refusalBy (s .ready) q) where
   -- what refusal 1 and 10 say of the record
-  told : (st : Option Model) → Stands st s ws t → turn st rec ≡ cond (bad (callOf rec)) (refuse st 1) (cond (same (isSetUp (requestOf rec .op)) (stood st)) (refuse st 10) (turn st rec))
+  told : (st : Option Model) → Stands st s ws t → turn st rec ≡ cond (bad (callOf rec)) (refuse st 1) (cond (same (isSetUp (requestOf rec .op)) (isReady st)) (refuse st 10) (turn st rec))
   told st l = go (bad (callOf rec)) refl
     where
-      two : bad (callOf rec) ≡ false → (y : Bool) → same (isSetUp (requestOf rec .op)) (stood st) ≡ y → turn st rec ≡ cond y (refuse st 10) (turn st rec)
+      two : bad (callOf rec) ≡ false → (y : Bool) → same (isSetUp (requestOf rec .op)) (isReady st) ≡ y → turn st rec ≡ cond y (refuse st 10) (turn st rec)
       two b true k = rw (request-means rec) (turn-ten st (requestOf rec .op) (requestOf rec .writer) (listPairs rec) (rw (← request-means rec) b) k)
       two b false k = refl
 
-      go : (b : Bool) → bad (callOf rec) ≡ b → turn st rec ≡ cond b (refuse st 1) (cond (same (isSetUp (requestOf rec .op)) (stood st)) (refuse st 10) (turn st rec))
+      go : (b : Bool) → bad (callOf rec) ≡ b → turn st rec ≡ cond b (refuse st 1) (cond (same (isSetUp (requestOf rec .op)) (isReady st)) (refuse st 10) (turn st rec))
       go true b = turn-bad st (callOf rec) b
-      go false b = two b (same (isSetUp (requestOf rec .op)) (stood st)) refl
+      go false b = two b (same (isSetUp (requestOf rec .op)) (isReady st)) refl
 
-  number : (st : Option Model) → Stands st s ws t → n ≡ cond (bad (callOf rec)) 1 (cond (same (isSetUp (requestOf rec .op)) (stood st)) 10 0)
+  number : (st : Option Model) → Stands st s ws t → n ≡ cond (bad (callOf rec)) 1 (cond (same (isSetUp (requestOf rec .op)) (isReady st)) 10 0)
   unfolding refusalBy
   number st l = rw (request-bad rec, ← by-ready st s ws t l) (rw e at f)
 
@@ -94,20 +94,26 @@ module _ (s : Session) (ws : List ℕ) (t : List Sample) (rec : List ℕ) (q : R
   means : (o : Op) → q .op ≡ o → callOf rec ≡ opMeant o (q .writer) (listPairs rec)
   means o k = request-means rec ∙ rw (← k, e) refl
 
-  pub turn-declined : (n ≡ 0 → ⊥) → (r : Replied) → r ≡ declinedWith s n → (ps is : List ℕ) (st : Option Model) → length rec < 65536 → Stands st s ws t → Answers (turn st rec) s ws t r ps is ws t
-  turn-declined z r d ps is st h l = go (bad (callOf rec)) (same (isSetUp (requestOf rec .op)) (stood st)) (told st l) (number st l)
-    where
-      by : (k : ℕ) → n ≡ k → Answers (refuse st k) s ws t r ps is ws t
-      by k g = rw (d, g) (record { says = refl; stands = l; kept = kept-same st s ws t })
+  -- of a malformed record the number is 1, whatever stands
+  bad-number : bad (callOf rec) ≡ true → n ≡ 1
+  unfolding refusalBy
+  bad-number b = rw (request-bad rec, b) (rw e at f)
 
-      go : (b y : Bool) → turn st rec ≡ cond b (refuse st 1) (cond y (refuse st 10) (turn st rec)) → n ≡ cond b 1 (cond y 10 0) → Answers (turn st rec) s ws t r ps is ws t
-      go true y p g = rw p (by 1 g)
-      go false true p g = rw p (by 10 g)
-      go false false p g = absurd (z g)
+  pub turn-declined : (n ≡ 0 → ⊥) → (r : Replied) → r ≡ declinedWith s n → (ps is : List ℕ) → Turns rec s ws t ps is r ws t ps is
+  turn-declined z r d ps is = record { stood = λ st h l. go st l (bad (callOf rec)) (same (isSetUp (requestOf rec .op)) (isReady st)) (told st l) (number st l); malformed = λ b. (d ∙ ap (declinedWith s) (bad-number b), refl, refl, refl, refl) }
+    where
+      by : (st : Option Model) → Stands st s ws t → (k : ℕ) → n ≡ k → Answers (refuse st k) s ws t ps is r ws t ps is
+      by st l k g = rw (d, g) (record { says = refl; stands = l; kept = kept-same st s ws t; pairs = refl; infos = refl })
+
+      go : (st : Option Model) → Stands st s ws t → (b y : Bool) → turn st rec ≡ cond b (refuse st 1) (cond y (refuse st 10) (turn st rec)) → n ≡ cond b 1 (cond y 10 0)
+          → Answers (turn st rec) s ws t ps is r ws t ps is
+      go st l true y p g = rw p (by st l 1 g)
+      go st l false true p g = rw p (by st l 10 g)
+      go st l false false p g = absurd (z g)
 
   -- the cache is asked: the record is a call, and in its place
-  asked : n ≡ 0 → (st : Option Model) → Stands st s ws t → (bad (callOf rec) ≡ false) × (same (isSetUp (q .op)) (stood st) ≡ false)
-  asked z st l = rw e (go (bad (callOf rec)) (same (isSetUp (requestOf rec .op)) (stood st)) (sym (number st l) ∙ z))
+  asked : n ≡ 0 → (st : Option Model) → Stands st s ws t → (bad (callOf rec) ≡ false) × (same (isSetUp (q .op)) (isReady st) ≡ false)
+  asked z st l = rw e (go (bad (callOf rec)) (same (isSetUp (requestOf rec .op)) (isReady st)) (sym (number st l) ∙ z))
     where
       go : (b y : Bool) → _≡_ {A = ℕ} (cond b 1 (cond y 10 0)) 0 → (b ≡ false) × (y ≡ false)
       go true y g = absurd (omega (arith, g))
@@ -117,51 +123,56 @@ module _ (s : Session) (ws : List ℕ) (t : List Sample) (rec : List ℕ) (q : R
   is-call : n ≡ 0 → (c : Call) (st : Option Model) → Stands st s ws t → callOf rec ≡ some c → turn st rec ≡ answering st c
   is-call z c st l k = rw k (turn-asked st c (rw k at (asked z st l .0)))
 
-  module _ (z : n ≡ 0) (r : Replied) (after : List ℕ) (then : List Sample) (ps is : List ℕ) where
-    pub turn-set-up : (u : SetUp) → q .op ≡ op.SetUp u → ((ps is : List ℕ) → Stands none s ws t → Answers (answering none (M.setUp (setUpMeant u))) s ws t r ps is after then)
-        → (st : Option Model) → length rec < 65536 → Stands st s ws t → Answers (turn st rec) s ws t r ps is after then
-    turn-set-up u o g st h l = go st l (rw o at (asked z st l .1))
+  module _ (z : n ≡ 0) (r : Replied) (after : List ℕ) (then : List Sample) (ps is qs js : List ℕ) where
+    -- the record is not malformed
+    whole : ((st : Option Model) → length rec < 65536 → Stands st s ws t → Answers (turn st rec) s ws t ps is r after then qs js) → Turns rec s ws t ps is r after then qs js
+    whole g = record { stood = g; malformed = λ b. absurd (omega (arith, z, bad-number b)) }
+
+    turn-call : (c : Call) → callOf rec ≡ some c → isSetUp (q .op) ≡ false → ((m : Model) → length rec < 65536 → Stands (some m) s ws t → Answers (answering (some m) c) s ws t ps is r after then qs js)
+        → Turns rec s ws t ps is r after then qs js
+    turn-call c k o g = whole (λ st h l. go h st l (rw o at (asked z st l .1)))
       where
-        go : (st : Option Model) → Stands st s ws t → same true (stood st) ≡ false → Answers (turn st rec) s ws t r ps is after then
+        go : length rec < 65536 → (st : Option Model) → Stands st s ws t → same false (isReady st) ≡ false → Answers (turn st rec) s ws t ps is r after then qs js
+        go h none l y = no y
+        go h (some m) l y = rw (is-call z c (some m) l k) (g m h l)
+
+  module _ (z : n ≡ 0) (r : Replied) (after : List ℕ) (then : List Sample) (ps is : List ℕ) where
+    pub turn-set-up : (u : SetUp) → q .op ≡ op.SetUp u → ((ps is : List ℕ) → Stands none s ws t → Answers (answering none (M.setUp (setUpMeant u))) s ws t ps is r after then ps is)
+        → Turns rec s ws t ps is r after then ps is
+    turn-set-up u o g = whole z r after then ps is ps is (λ st h l. go st l (rw o at (asked z st l .1)))
+      where
+        go : (st : Option Model) → Stands st s ws t → same true (isReady st) ≡ false → Answers (turn st rec) s ws t ps is r after then ps is
         go none l k = rw (is-call z (M.setUp (setUpMeant u)) none l (means (op.SetUp u) o)) (g ps is l)
         go (some m) l k = no k
 
-    turn-call : (c : Call) → callOf rec ≡ some c → isSetUp (q .op) ≡ false → ((m : Model) → Stands (some m) s ws t → Answers (answering (some m) c) s ws t r ps is after then)
-        → (st : Option Model) → Stands st s ws t → Answers (turn st rec) s ws t r ps is after then
-    turn-call c k o g st l = go st l (rw o at (asked z st l .1))
-      where
-        go : (st : Option Model) → Stands st s ws t → same false (stood st) ≡ false → Answers (turn st rec) s ws t r ps is after then
-        go none l y = no y
-        go (some m) l y = rw (is-call z c (some m) l k) (g m l)
+    pub turn-add : (a : Arrival) → q .op ≡ op.Add a → ((m : Model) (ps is : List ℕ) → Stands (some m) s ws t → Answers (answering (some m) (M.add (arrivalMeant a (q .writer)))) s ws t ps is r after then ps is)
+        → Turns rec s ws t ps is r after then ps is
+    turn-add a o g = turn-call z r after then ps is ps is (M.add (arrivalMeant a (q .writer))) (means (op.Add a) o) (ap isSetUp o) (λ m h. g m ps is)
 
-    pub turn-add : (a : Arrival) → q .op ≡ op.Add a → ((m : Model) (ps is : List ℕ) → Stands (some m) s ws t → Answers (answering (some m) (M.add (arrivalMeant a (q .writer)))) s ws t r ps is after then)
-        → (st : Option Model) → length rec < 65536 → Stands st s ws t → Answers (turn st rec) s ws t r ps is after then
-    turn-add a o g st h l = turn-call (M.add (arrivalMeant a (q .writer))) (means (op.Add a) o) (ap isSetUp o) (λ m. g m ps is) st l
+    pub turn-no-writers : (i : ℕ) → q .op ≡ op.NoWriters i → then ≡ t → ((m : Model) (t : List Sample) (ps is : List ℕ) → Stands (some m) s ws t → Answers (answering (some m) (M.dies i)) s ws t ps is r after t ps is)
+        → Turns rec s ws t ps is r after then ps is
+    turn-no-writers i o same-table g = turn-call z r after then ps is ps is (M.dies i) (means (op.NoWriters i) o) (ap isSetUp o) (λ m h k. rw same-table (g m t ps is k))
 
-    pub turn-no-writers : (i : ℕ) → q .op ≡ op.NoWriters i → then ≡ t → ((m : Model) (t : List Sample) (ps is : List ℕ) → Stands (some m) s ws t → Answers (answering (some m) (M.dies i)) s ws t r ps is after t)
-        → (st : Option Model) → length rec < 65536 → Stands st s ws t → Answers (turn st rec) s ws t r ps is after then
-    turn-no-writers i o same-table g st h l = turn-call (M.dies i) (means (op.NoWriters i) o) (ap isSetUp o) (λ m k. rw same-table (g m t ps is k)) st l
+    pub turn-next-key : (i : ℕ) → q .op ≡ op.NextKey i → after ≡ ws → then ≡ t → ((m : Model) (t : List Sample) (ps is : List ℕ) → Stands (some m) s ws t → Answers (answering (some m) (M.after i)) s ws t ps is r ws t ps is)
+        → Turns rec s ws t ps is r after then ps is
+    turn-next-key i o same-words same-table g = turn-call z r after then ps is ps is (M.after i) (means (op.NextKey i) o) (ap isSetUp o) (λ m h k. rw (same-words, same-table) (g m t ps is k))
 
-    pub turn-next-key : (i : ℕ) → q .op ≡ op.NextKey i → after ≡ ws → then ≡ t → ((m : Model) (t : List Sample) (ps is : List ℕ) → Stands (some m) s ws t → Answers (answering (some m) (M.after i)) s ws t r ps is ws t)
-        → (st : Option Model) → length rec < 65536 → Stands st s ws t → Answers (turn st rec) s ws t r ps is after then
-    turn-next-key i o same-words same-table g st h l = turn-call (M.after i) (means (op.NextKey i) o) (ap isSetUp o) (λ m k. rw (same-words, same-table) (g m t ps is k)) st l
+    pub turn-choose : (c : ReadCondition) (qs : List ℕ) → q .op ≡ op.Choose c → after ≡ ws → then ≡ t → ((m : Model) (is : List ℕ) → Stands (some m) s ws t → Answers (answering (some m) (M.look none c buffer)) s ws t ps is r ws t qs is)
+        → Turns rec s ws t ps is r after then qs is
+    turn-choose c qs o same-words same-table g = turn-call z r after then ps is qs is (M.look none c buffer) (means (op.Choose c) o) (ap isSetUp o) (λ m h k. rw (same-words, same-table) (g m is k))
 
-    pub turn-choose : (c : ReadCondition) → q .op ≡ op.Choose c → after ≡ ws → then ≡ t → ((m : Model) (is : List ℕ) → Stands (some m) s ws t → Answers (answering (some m) (M.look none c buffer)) s ws t r ps is ws t)
-        → (st : Option Model) → length rec < 65536 → Stands st s ws t → Answers (turn st rec) s ws t r ps is after then
-    turn-choose c o same-words same-table g st h l = turn-call (M.look none c buffer) (means (op.Choose c) o) (ap isSetUp o) (λ m k. rw (same-words, same-table) (g m is k)) st l
+    pub turn-choose-within : (i : ℕ) (c : ReadCondition) (qs : List ℕ) → q .op ≡ op.ChooseWithin i c → after ≡ ws → then ≡ t
+        → ((m : Model) (is : List ℕ) → Stands (some m) s ws t → Answers (answering (some m) (M.look (some i) c buffer)) s ws t ps is r ws t qs is) → Turns rec s ws t ps is r after then qs is
+    turn-choose-within i c qs o same-words same-table g = turn-call z r after then ps is qs is (M.look (some i) c buffer) (means (op.ChooseWithin i c) o) (ap isSetUp o) (λ m h k. rw (same-words, same-table) (g m is k))
 
-    pub turn-choose-within : (i : ℕ) (c : ReadCondition) → q .op ≡ op.ChooseWithin i c → after ≡ ws → then ≡ t → ((m : Model) (is : List ℕ) → Stands (some m) s ws t → Answers (answering (some m) (M.look (some i) c buffer)) s ws t r ps is ws t)
-        → (st : Option Model) → length rec < 65536 → Stands st s ws t → Answers (turn st rec) s ws t r ps is after then
-    turn-choose-within i c o same-words same-table g st h l = turn-call (M.look (some i) c buffer) (means (op.ChooseWithin i c) o) (ap isSetUp o) (λ m k. rw (same-words, same-table) (g m is k)) st l
+    pub turn-read : (i : ℕ) (js : List ℕ) → q .op ≡ op.Read i → ((m : Model) (ps : List ℕ) → length rec < 65536 → Stands (some m) s ws t → Answers (answering (some m) (M.list false (listPairs rec) buffer)) s ws t ps is r after then ps js)
+        → Turns rec s ws t ps is r after then ps js
+    turn-read i js o g = turn-call z r after then ps is ps js (M.list false (listPairs rec) buffer) (means (op.Read i) o) (ap isSetUp o) (λ m. g m ps)
 
-    pub turn-read : (i : ℕ) (buf : List ℕ) → q .op ≡ op.Read i → ((m : Model) (ps : List ℕ) → length rec < 65536 → 8190 ≤ length buf → Stands (some m) s ws t → Answers (answering (some m) (M.list false (listPairs rec) buffer)) s ws t r ps is after then) → length buf ≡ 8190
-        → (st : Option Model) → length rec < 65536 → Stands st s ws t → Answers (turn st rec) s ws t r ps is after then
-    turn-read i buf o g long st h l = turn-call (M.list false (listPairs rec) buffer) (means (op.Read i) o) (ap isSetUp o) (λ m. g m ps h (omega (arith, long))) st l
-
-    pub turn-take : (i : ℕ) (buf : List ℕ) → q .op ≡ op.Take i → ((m : Model) (ps : List ℕ) → length rec < 65536 → 8190 ≤ length buf → Stands (some m) s ws t → Answers (answering (some m) (M.list true (listPairs rec) buffer)) s ws t r ps is after then) → length buf ≡ 8190
-        → (st : Option Model) → length rec < 65536 → Stands st s ws t → Answers (turn st rec) s ws t r ps is after then
-    turn-take i buf o g long st h l = turn-call (M.list true (listPairs rec) buffer) (means (op.Take i) o) (ap isSetUp o) (λ m. g m ps h (omega (arith, long))) st l
+    pub turn-take : (i : ℕ) (js : List ℕ) → q .op ≡ op.Take i → ((m : Model) (ps : List ℕ) → length rec < 65536 → Stands (some m) s ws t → Answers (answering (some m) (M.list true (listPairs rec) buffer)) s ws t ps is r after then ps js)
+        → Turns rec s ws t ps is r after then ps js
+    turn-take i js o g = turn-call z r after then ps is ps js (M.list true (listPairs rec) buffer) (means (op.Take i) o) (ap isSetUp o) (λ m. g m ps)
 
     -- a malformed record does not come this far
-    pub turn-malformed : q .op ≡ op.Malformed → (st : Option Model) → length rec < 65536 → Stands st s ws t → Answers (turn st rec) s ws t r ps is after then
-    turn-malformed o st h l = no (sym (ap bad (means op.Malformed o)) ∙ asked z st l .0)
+    pub turn-malformed : q .op ≡ op.Malformed → Turns rec s ws t ps is r after then ps is
+    turn-malformed o = whole z r after then ps is ps is (λ st h l. no (sym (ap bad (means op.Malformed o)) ∙ asked z st l .0))

@@ -2,7 +2,7 @@ mod Lts
 mod Tie
 use mathlib.Core.Path.{refl}
 use borrow.Author.Needs.{needs}
-use Rattle.datasample_cache.specs.CameLaws.{came-add, came-no-table}
+use Rattle.datasample_cache.specs.CameLaws.{came-add, came-no-table, unfit-left}
 use Rattle.datasample_cache.proofs.add.Statement.{statement}
 use Rattle.datasample_cache.proofs.add.Proof.Tie as tie
 
@@ -28,7 +28,7 @@ same-length : tie.Need-same-length
 same-length c = search needs
 
 returns-2 : tie.Need-returns-2
-returns-2 c = (search (needs, came-add), λ n. absurd (n (search needs)))
+returns-2 c = (search (needs, came-add), unfit-left _ _ _ _ _ _ _ _ _ _ (c .before .before .before .before .before .decide .ensures) (c .before .before .swap .ensures .0) (c .before .before .swap .ensures .1) (c .finish .ensures) (search needs))
 
 pub add-spec : {M : Type 1} → statement M
 add-spec =

@@ -10,7 +10,7 @@ declined-requires : tie.Need-declined-requires
 declined-requires c κs = search needs
 
 returns : tie.Need-returns
-returns c = λ s w t. search (needs, decide-unfit, decide-kind, decide-made)
+returns c = search (needs, decide-unfit, decide-kind, decide-made)
 
 of-requires : tie.Need-of-requires
 of-requires c κs = search needs
@@ -31,10 +31,10 @@ planned-requires : tie.Need-planned-requires
 planned-requires c κs = search needs
 
 returns-2 : tie.Need-returns-2
-returns-2 c = λ s w t. search (needs, decide-unfit, decide-kind, decide-made)
+returns-2 c = search (needs, decide-unfit, decide-kind, decide-made)
 
 returns-3 : tie.Need-returns-3
-returns-3 c = λ s w t. search (needs, decide-unfit, decide-kind, decide-made)
+returns-3 c = search (needs, decide-unfit, decide-kind, decide-made)
 
 pub decide-spec : {M : Type 1} → statement M
 decide-spec =

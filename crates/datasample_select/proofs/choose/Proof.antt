@@ -1,7 +1,7 @@
 mod Lts
 mod Tie
 use borrow.Author.Needs.{needs}
-use Rattle.datasample_select.specs.ChooseLaws.{choose-done, choose-no-table}
+use Rattle.datasample_select.specs.ChooseLaws.{choose-done, choose-no-table, choose-unfit}
 use Rattle.datasample_select.proofs.choose.Statement.{statement}
 use Rattle.datasample_select.proofs.choose.Proof.Tie as tie
 
@@ -21,7 +21,7 @@ same-length : tie.Need-same-length
 same-length c = search needs
 
 returns-2 : tie.Need-returns-2
-returns-2 c = (search (needs, choose-done), λ n. absurd (n (search needs)))
+returns-2 c = (search (needs, choose-done), λ n. choose-unfit _ _ _ _ _ _ _ (c .before .before .select .ensures .0) (search needs) n)
 
 pub choose-spec : {M : Type 1} → statement M
 choose-spec =
