@@ -8,10 +8,9 @@ use Rattle.sampleinfo.specs.declared.Sample.{Sample}
 use Rattle.slots.specs.FreeLaws.{Whole}
 use Rattle.model.specs.Model.{Model, Step, Answer}
 use Rattle.index.specs.declared.Cache.{Cache}
-use Rattle.index.specs.Keeping.{same-head}
 use Rattle.lookup.specs.declared.Next.{Next}
 use Rattle.lookup.specs.declared.Next.the-variants as next
-use Rattle.memory.specs.Lies.{Lies}
+use Rattle.memory.specs.Lies.{Lies, one-memory}
 use Rattle.datasample_cache.specs.Came.{evictedAs, addedAs, Came}
 use Rattle.datasample_cache.specs.Others.{replyAs, nextAs, Dies}
 use Rattle.datasample_cache.specs.declared.Evicted.{Evicted}
@@ -21,11 +20,6 @@ use Rattle.datasample_cache.specs.declared.Added.the-variants as added
 use Rattle.datasample_cache.specs.declared.AddOutcome.{AddOutcome}
 use Rattle.datasample_cache.specs.declared.Reply.{Reply}
 use Rattle.datasample_cache.specs.declared.Reply.the-variants as reply
-
--- ---- memory
-
-pub one-memory : (m : Model) (h k : Cache) (v w : List ℕ) (t u : List Sample) → Whole (h .free) → Whole (k .free) → Lies m h v t → Lies m k w u → (h ≡ k) × (v ≡ w) × (t ≡ u)
-one-memory m h k v w t u p q a b = (same-head h k p q (a .head ∙ sym (b .head)), a .words ∙ sym (b .words), a .table ∙ sym (b .table))
 
 -- ---- answers: document 01's number and values tell the case
 

@@ -28,6 +28,7 @@ use Rattle.datasample_access.specs.declared.ListOutcome.{ListOutcome}
 use Rattle.records.specs.Format.{bad}
 use Rattle.records.specs.Requests.{callMeant}
 use Rattle.records.specs.declared.Request.{Request}
+use Rattle.replies.specs.declared.Session.{Session}
 use Rattle.replies.specs.declared.Replied.{Replied}
 use Rattle.replies.specs.Steps.{said, sessionOf, isOk, replySaid, setUpDone, evictedSaid, addSaid, addDone, chooseSaid, listSaid, listDone, atMost, nextSaid, isSetUp, same, refusalBy}
 
@@ -78,6 +79,9 @@ add-done r x q e f = rw (f, e) refl
 
 pub list-done : (r : ListOutcome) (x : Reply) (q : Replied) → x ≡ listSaid (r .answer) → q ≡ said (sessionOf (r .head) true) x → q ≡ listDone r
 list-done r x q e f = rw (f, e) refl
+
+pub choose-done : (s : Session) (r : Chosen) (x : Reply) → x ≡ chooseSaid r → record { session = s; reply = x } ≡ said s (chooseSaid r)
+choose-done s r x e = rw e refl
 
 -- ---- as many as there are
 

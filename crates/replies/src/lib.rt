@@ -112,12 +112,22 @@ pub fn add_done(r: datasample_cache::AddOutcome) -> Replied
     ready(head, add_reply(answer))
 }
 
-pub fn choose_reply(r: select::Chosen) -> Reply
+fn choose_reply(r: select::Chosen) -> Reply
     ensures { λ q. ⌜ q ≡ chooseSaid r ⌝ }
 {
     match r {
         select::Chosen::Selected(n) => Reply::Selected(n),
         select::Chosen::Refused(n) => Reply::Refused(n),
+    }
+}
+
+// Choosing changes nothing of the cache.
+pub fn choose_done(s: Session, r: select::Chosen) -> Replied
+    ensures { λ q. ⌜ q ≡ said s (chooseSaid r) ⌝ }
+{
+    Replied {
+        session: s,
+        reply: choose_reply(r),
     }
 }
 

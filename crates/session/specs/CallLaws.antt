@@ -171,17 +171,17 @@ listing-is : (m : Model) (take : Bool) (ps : List Pair) (keys : List ℕ) (room 
 unfolding listing wholePairs
 listing-is m take ps keys room P k n h = rw (k, n, words-even ps, pairs-back ps) at h
 
--- as many as were asked for, or all
-pub front-long : (l : List ℕ) (n k : ℕ) → k ≡ atMost n (length l) → k ≡ length (take k l)
-front-long l n k h = omega (arith, at-most-there n (length l), length-take k l)
+-- the list has 8,190 words: as many as were asked for, or all
+pub front-long : (l : List ℕ) (n k : ℕ) → k ≡ atMost n 8190 → length l ≡ 8190 → k ≡ length (take k l)
+front-long l n k h e = omega (arith, at-most-there n 8190, length-take k l)
 
-pub front-there : (l : List ℕ) (n k : ℕ) → k ≡ atMost n (length l) → k ≤ length l
-front-there l n k h = rw h (at-most-there n (length l))
+pub front-there : (l : List ℕ) (n k : ℕ) → k ≡ atMost n 8190 → length l ≡ 8190 → k ≤ length l
+front-there l n k h e = omega (arith, at-most-there n 8190)
 
 -- the words of a record stand at the front of the list
-front-words : (rec buf now′ : List ℕ) (n k : ℕ) → n ≡ length (wordsIn rec) → now′ ≡ laidIn buf (wordsIn rec) → k ≡ atMost n (length now′) → length (wordsIn rec) ≤ length buf → length now′ ≡ length buf
+front-words : (rec buf now′ : List ℕ) (n k : ℕ) → n ≡ length (wordsIn rec) → now′ ≡ laidIn buf (wordsIn rec) → k ≡ atMost n 8190 → length (wordsIn rec) ≤ 8190 → length buf ≡ 8190
     → take k now′ ≡ wordsIn rec
-front-words rec buf now′ n k en el ek few long = rw (ek ∙ at-most-is n (length now′) (omega arith), en, el) (words-laid rec buf few)
+front-words rec buf now′ n k en el ek few long = rw (ek ∙ at-most-is n 8190 (omega arith), en, el) (words-laid rec buf (omega arith))
 
 -- ---- the calls
 
@@ -220,13 +220,13 @@ module _ (s : Session) (ws after : List ℕ) (t then : List Sample) (q : Replied
   -- the words of the record were laid at the front of the list, which has room for those of any record
   pub list-answers : (taken b : Bool) (rec buf now′ was out : List ℕ) (n k : ℕ) (r : ListOutcome) → q ≡ listDone r
       → ((m : Model) → Good m → Lies m (s .head) ws t → list.Came (listing m b (take k now′) (placesIn was)) r after then was out) → taken ≡ b
-      → now′ ≡ laidIn buf (wordsIn rec) → n ≡ length (wordsIn rec) → length now′ ≡ length buf → k ≡ atMost n (length now′) → length was ≡ 6912
+      → now′ ≡ laidIn buf (wordsIn rec) → n ≡ length (wordsIn rec) → k ≡ atMost n 8190 → length was ≡ 6912
       → length buf ≡ 8190 → (m : Model) (ps : List ℕ) → length rec < 65536 → Ready m s ws t → Answers (answering (some m) (Call.list taken (listPairs rec) buffer)) s ws t ps was q after then ps out
   unfolding answering
-  list-answers taken b rec buf now′ was out n k r e f eb el en long ek room big m ps h l =
+  list-answers taken b rec buf now′ was out n k r e f eb el en ek room big m ps h l =
       let c : Call = Call.list b (listPairs rec) buffer in
       let x : list.Came (step m c) r after then was out = listing-is m b (listPairs rec) (take k now′) (placesIn was) (λ st. list.Came st r after then was out)
-      (front-words rec buf now′ n k en el ek (omega (arith, words-fit rec (omega arith))) long) (ap (λ i. i / 27) room) (f m (l .good) (l .lies)) in
+      (front-words rec buf now′ n k en el ek (omega (arith, words-fit rec (omega arith))) big) (ap (λ i. i / 27) room) (f m (l .good) (l .lies)) in
       rw (e, eb)
       (record {
         says = list-says ps was out (step m c .answer) (r .answer) (x .answer) (small-answer m (l .good) (l .small) c);
@@ -236,14 +236,14 @@ module _ (s : Session) (ws after : List ℕ) (t then : List Sample) (q : Replied
         infos = told-left was out (step m c .answer) (r .answer) (x .answer) ps .1;
       })
 
-  pub choose-answers : (w : Option ℕ) (c : ReadCondition) (was out : List ℕ) (r : Chosen) (x : Reply) → x ≡ chooseSaid r → q ≡ said s x → length was ≡ 512
+  pub choose-answers : (w : Option ℕ) (c : ReadCondition) (was out : List ℕ) (r : Chosen) → q ≡ said s (chooseSaid r) → length was ≡ 512
       → ((m : Model) → Good m → Lies m (s .head) ws t → select.Told (step m (Call.look w c (length was / 2)) .answer) r was out)
       → (m : Model) (is : List ℕ) → Ready m s ws t → Answers (answering (some m) (Call.look w c buffer)) s ws t was is q ws t out is
   unfolding answering step
-  choose-answers w c was out r x k e n f m is l =
+  choose-answers w c was out r e n f m is l =
       let y : select.Told (step m (Call.look w c buffer) .answer) r was out = rw n at f m (l .good) (l .lies) in
       let left : out ≡ pairsLeft (step m (Call.look w c buffer) .answer) was = y .buffer ∙ written-left (step m (Call.look w c buffer) .answer) was in
-      rw (e, k) (record { says = choose-says is was out _ r y; stands = l; kept = tt; pairs = left; infos = chosen-left is r out _ (y .answer) })
+      rw e (record { says = choose-says is was out _ r y; stands = l; kept = tt; pairs = left; infos = chosen-left is r out _ (y .answer) })
 
   pub no-writers-answers : (i : ℕ) (r : cache-reply.Reply) (x : Reply) → x ≡ replySaid r → q ≡ said s x
       → ((m : Model) (t : List Sample) → Good m → Lies m (s .head) ws t → Dies (step m (Call.dies i)) r (s .head) after t)

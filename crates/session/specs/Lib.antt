@@ -3,4 +3,4 @@ pub mod Stands
 pub mod CallLaws
 pub mod TurnLaws
 pub mod RespondLaws
-pub mod Talks
+pub mod OneAnswer

@@ -97,7 +97,7 @@ module _ (s : Session) (ws : List ℕ) (t : List Sample) (rec : List ℕ) (q : R
   -- of a malformed record the number is 1, whatever stands
   bad-number : bad (callOf rec) ≡ true → n ≡ 1
   unfolding refusalBy
-  bad-number b = rw (request-bad rec, b) (rw e at f)
+  bad-number b = rw (sym (request-bad rec) ∙ b) at (rw e at f)
 
   pub turn-declined : (n ≡ 0 → ⊥) → (r : Replied) → r ≡ declinedWith s n → (ps is : List ℕ) → Turns rec s ws t ps is r ws t ps is
   turn-declined z r d ps is = record { stood = λ st h l. go st l (bad (callOf rec)) (same (isSetUp (requestOf rec .op)) (isReady st)) (told st l) (number st l); malformed = λ b. (d ∙ ap (declinedWith s) (bad-number b), refl, refl, refl, refl) }

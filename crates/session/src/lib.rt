@@ -2,7 +2,7 @@
 ghost use mathlib.Core.Path.{_≡_};
 ghost use mathlib.Core.List.{List};
 ghost use mathlib.Core.Option.{Option};
-ghost use Prim.Native.Nat.{ℕ, _<_, _≤_};
+ghost use Prim.Native.Nat.{ℕ, _<_};
 ghost use Rattle.model.specs.Model as model;
 ghost use Rattle.model.specs.Model.{Model};
 ghost use Rattle.records.specs.Requests.{setUpMeant, arrivalMeant, listPairs};
@@ -12,10 +12,9 @@ ghost use lib.ListN.{length};
 ghost use Rattle.printing.specs.Printout as print;
 ghost use Rattle.printing.specs.Lines.{Laid};
 ghost use Rattle.answers.specs.Says.{Says};
-ghost use Rattle.select.specs.Choice.{scopeOf};
 ghost use Rattle.replies.specs.Steps.{starting};
-ghost use Rattle.session.specs.Session.{turn, answering};
-ghost use Rattle.session.specs.Stands.{Stands, Answers, Responds};
+ghost use Rattle.session.specs.Session.{answering};
+ghost use Rattle.session.specs.Stands.{Stands, Answers, Turns, Responded};
 use replies::Replied;
 use replies::Session;
 
@@ -33,7 +32,7 @@ fn do_set_up(
     t: &mut [sampleinfo::Sample],
     u: records::SetUp,
 ) -> Replied
-    ensures { λ r. ⌜ ((ps is : List ℕ) → Stands Option.none s (now (ws .entry)) (now (t .entry)) → Answers (answering Option.none (model.setUp (setUpMeant u))) s (now (ws .entry)) (now (t .entry)) r ps is (now (ws .exit)) (now (t .exit))) ⌝ }
+    ensures { λ r. ⌜ ((ps is : List ℕ) → Stands Option.none s (now (ws .entry)) (now (t .entry)) → Answers (answering Option.none (model.setUp (setUpMeant u))) s (now (ws .entry)) (now (t .entry)) ps is r (now (ws .exit)) (now (t .exit)) ps is) ⌝ }
 {
     let head = s.head;
     let r = datasample_cache::set_up(head, ws, t, u.mode, u.keep, u.instances);
@@ -49,7 +48,7 @@ fn do_add(
     a: records::Arrival,
     writer: [u8; 16],
 ) -> Replied
-    ensures { λ r. ⌜ ((m : Model) (ps is : List ℕ) → Stands (Option.some m) s (now (ws .entry)) (now (t .entry)) → Answers (answering (Option.some m) (model.add (arrivalMeant a writer))) s (now (ws .entry)) (now (t .entry)) r ps is (now (ws .exit)) (now (t .exit))) ⌝ }
+    ensures { λ r. ⌜ ((m : Model) (ps is : List ℕ) → Stands (Option.some m) s (now (ws .entry)) (now (t .entry)) → Answers (answering (Option.some m) (model.add (arrivalMeant a writer))) s (now (ws .entry)) (now (t .entry)) ps is r (now (ws .exit)) (now (t .exit)) ps is) ⌝ }
 {
     let head = s.head;
     let handle = replies::bounded(a.handle);
@@ -73,18 +72,29 @@ fn do_choose(
     s: Session,
     ws: &[u64; 928],
     t: &[sampleinfo::Sample],
-    within: select::Within,
     rc: readcondition::ReadCondition,
     pairs: &mut [u64; 512],
 ) -> Replied
-    ensures { λ r. ⌜ ((m : Model) (is : List ℕ) → Stands (Option.some m) s (now (ws .entry)) (now (t .entry)) → Answers (answering (Option.some m) (model.look (scopeOf within) rc buffer)) s (now (ws .entry)) (now (t .entry)) r (now (pairs .exit)) is (now (ws .entry)) (now (t .entry))) ⌝ }
+    ensures { λ r. ⌜ ((m : Model) (is : List ℕ) → Stands (Option.some m) s (now (ws .entry)) (now (t .entry)) → Answers (answering (Option.some m) (model.look Option.none rc buffer)) s (now (ws .entry)) (now (t .entry)) (now (pairs .entry)) is r (now (ws .entry)) (now (t .entry)) (now (pairs .exit)) is) ⌝ }
 {
     let head = s.head;
-    let r = datasample_select::choose(head, ws, t, within, rc, pairs);
-    Replied {
-        session: s,
-        reply: replies::choose_reply(r),
-    }
+    let r = datasample_select::choose(head, ws, t, select::Within::All, rc, pairs);
+    replies::choose_done(s, r)
+}
+
+fn do_choose_within(
+    s: Session,
+    ws: &[u64; 928],
+    t: &[sampleinfo::Sample],
+    instance: u64,
+    rc: readcondition::ReadCondition,
+    pairs: &mut [u64; 512],
+) -> Replied
+    ensures { λ r. ⌜ ((m : Model) (is : List ℕ) → Stands (Option.some m) s (now (ws .entry)) (now (t .entry)) → Answers (answering (Option.some m) (model.look (Option.some instance) rc buffer)) s (now (ws .entry)) (now (t .entry)) (now (pairs .entry)) is r (now (ws .entry)) (now (t .entry)) (now (pairs .exit)) is) ⌝ }
+{
+    let head = s.head;
+    let r = datasample_select::choose_within(head, ws, t, instance, rc, pairs);
+    replies::choose_done(s, r)
 }
 
 // ---- reading and taking
@@ -95,13 +105,13 @@ fn do_list(
     t: &mut [sampleinfo::Sample],
     rec: &[u8],
     take: bool,
-    list: &mut [u64],
     infos: &mut [u64; 6912],
 ) -> Replied
-    ensures { λ r. ⌜ ((m : Model) (ps : List ℕ) → length (now (rec .entry)) < 65536 → 8190 ≤ length (now (list .entry)) → Stands (Option.some m) s (now (ws .entry)) (now (t .entry)) → Answers (answering (Option.some m) (model.list take (listPairs (now (rec .entry))) buffer)) s (now (ws .entry)) (now (t .entry)) r ps (now (infos .exit)) (now (ws .exit)) (now (t .exit))) ⌝ }
+    ensures { λ r. ⌜ ((m : Model) (ps : List ℕ) → length (now (rec .entry)) < 65536 → Stands (Option.some m) s (now (ws .entry)) (now (t .entry)) → Answers (answering (Option.some m) (model.list take (listPairs (now (rec .entry))) buffer)) s (now (ws .entry)) (now (t .entry)) ps (now (infos .entry)) r (now (ws .exit)) (now (t .exit)) ps (now (infos .exit))) ⌝ }
 {
     let head = s.head;
-    let words = records::pairs_of(rec, list);
+    let mut list = [0u64; 8190];
+    let words = records::pairs_of(rec, &mut list);
     let n = replies::at_most(words, list.len());
     if take {
         let r = datasample_access::take_by_keys(head, ws, t, &list[..n], infos);
@@ -114,7 +124,7 @@ fn do_list(
 // ---- the no-writers event, and the next key
 
 fn do_no_writers(s: Session, ws: &mut [u64; 928], instance: u64) -> Replied
-    ensures { λ r. ⌜ ((m : Model) (t : List Sample) (ps is : List ℕ) → Stands (Option.some m) s (now (ws .entry)) t → Answers (answering (Option.some m) (model.dies instance)) s (now (ws .entry)) t r ps is (now (ws .exit)) t) ⌝ }
+    ensures { λ r. ⌜ ((m : Model) (t : List Sample) (ps is : List ℕ) → Stands (Option.some m) s (now (ws .entry)) t → Answers (answering (Option.some m) (model.dies instance)) s (now (ws .entry)) t ps is r (now (ws .exit)) t ps is) ⌝ }
 {
     let head = s.head;
     let r = datasample_cache::no_writers(head, ws, instance);
@@ -125,7 +135,7 @@ fn do_no_writers(s: Session, ws: &mut [u64; 928], instance: u64) -> Replied
 }
 
 fn do_next_key(s: Session, ws: &[u64; 928], instance: u64) -> Replied
-    ensures { λ r. ⌜ ((m : Model) (t : List Sample) (ps is : List ℕ) → Stands (Option.some m) s (now (ws .entry)) t → Answers (answering (Option.some m) (model.after instance)) s (now (ws .entry)) t r ps is (now (ws .entry)) t) ⌝ }
+    ensures { λ r. ⌜ ((m : Model) (t : List Sample) (ps is : List ℕ) → Stands (Option.some m) s (now (ws .entry)) t → Answers (answering (Option.some m) (model.after instance)) s (now (ws .entry)) t ps is r (now (ws .entry)) t ps is) ⌝ }
 {
     let head = s.head;
     let r = datasample_cache::next_key(head, ws, instance);
@@ -142,11 +152,10 @@ fn answer(
     ws: &mut [u64; 928],
     t: &mut [sampleinfo::Sample],
     rec: &[u8],
-    list: &mut [u64; 8190],
     pairs: &mut [u64; 512],
     infos: &mut [u64; 6912],
 ) -> Replied
-    ensures { λ r. ⌜ ((st : Option Model) → length (now (rec .entry)) < 65536 → Stands st s (now (ws .entry)) (now (t .entry)) → Answers (turn st (now (rec .entry))) s (now (ws .entry)) (now (t .entry)) r (now (pairs .exit)) (now (infos .exit)) (now (ws .exit)) (now (t .exit))) ⌝ }
+    ensures { λ r. ⌜ Turns (now (rec .entry)) s (now (ws .entry)) (now (t .entry)) (now (pairs .entry)) (now (infos .entry)) r (now (ws .exit)) (now (t .exit)) (now (pairs .exit)) (now (infos .exit)) ⌝ }
 {
     let q = records::decode(rec);
     let n = replies::refusal(s, q);
@@ -159,17 +168,10 @@ fn answer(
         records::Op::SetUp(u) => do_set_up(s, ws, t, u),
         records::Op::Add(a) => do_add(s, ws, t, a, writer),
         records::Op::NoWriters(i) => do_no_writers(s, ws, i),
-        records::Op::Choose(c) => do_choose(s, ws, t, select::Within::All, c, pairs),
-        records::Op::ChooseWithin(i, c) => do_choose(
-            s,
-            ws,
-            t,
-            select::Within::Instance(i),
-            c,
-            pairs,
-        ),
-        records::Op::Read(_) => do_list(s, ws, t, rec, false, list, infos),
-        records::Op::Take(_) => do_list(s, ws, t, rec, true, list, infos),
+        records::Op::Choose(c) => do_choose(s, ws, t, c, pairs),
+        records::Op::ChooseWithin(i, c) => do_choose_within(s, ws, t, i, c, pairs),
+        records::Op::Read(_) => do_list(s, ws, t, rec, false, infos),
+        records::Op::Take(_) => do_list(s, ws, t, rec, true, infos),
         records::Op::NextKey(i) => do_next_key(s, ws, i),
         records::Op::Malformed => replies::declined(s, 1),
     }
@@ -187,20 +189,20 @@ fn printed(r: Replied, pairs: &[u64; 512], infos: &[u64; 6912], line: &mut [u8; 
     }
 }
 
-// A record, without its two length bytes, is answered: its lines stand at the front of `line`. `list`, `pairs` and `infos` are working space.
+// A record, without its two length bytes, is answered: its lines stand at the front of `line`, the pairs and infos that they print at the front of `pairs`
+// and `infos`.
 pub fn respond(
     s: Session,
     ws: &mut [u64; 928],
     t: &mut [sampleinfo::Sample],
     rec: &[u8],
-    list: &mut [u64; 8190],
     pairs: &mut [u64; 512],
     infos: &mut [u64; 6912],
     line: &mut [u8; 66048],
 ) -> Answered
-    ensures { λ r. ⌜ ((st : Option Model) → length (now (rec .entry)) < 65536 → Stands st s (now (ws .entry)) (now (t .entry)) → Responds (turn st (now (rec .entry))) s (now (ws .entry)) (now (t .entry)) r (now (ws .exit)) (now (t .exit)) (now (line .entry)) (now (line .exit))) ⌝ }
+    ensures { λ r. ⌜ Responded (now (rec .entry)) s (now (ws .entry)) (now (t .entry)) (now (pairs .entry)) (now (infos .entry)) (now (line .entry)) r (now (ws .exit)) (now (t .exit)) (now (pairs .exit)) (now (infos .exit)) (now (line .exit)) ⌝ }
 {
-    let r = answer(s, ws, t, rec, list, pairs, infos);
+    let r = answer(s, ws, t, rec, pairs, infos);
     printed(r, pairs, infos, line)
 }
 

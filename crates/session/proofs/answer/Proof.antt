@@ -44,8 +44,8 @@ do-choose-requires c κs = search needs
 enum-known-op-5 : tie.Need-enum-known-op-5
 enum-known-op-5 c = search needs
 
-do-choose-requires-2 : tie.Need-do-choose-requires-2
-do-choose-requires-2 c κs = search needs
+do-choose-within-requires : tie.Need-do-choose-within-requires
+do-choose-within-requires c κs = search needs
 
 enum-told : tie.Need-enum-told
 enum-told c = search needs
@@ -133,7 +133,7 @@ answer-spec =
     enum-known-op-4
     do-choose-requires
     enum-known-op-5
-    do-choose-requires-2
+    do-choose-within-requires
     enum-told
     do-list-requires
     enum-told-2

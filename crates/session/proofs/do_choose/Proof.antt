@@ -8,11 +8,11 @@ use Rattle.session.proofs.do_choose.Proof.Tie as tie
 choose-requires : tie.Need-choose-requires
 choose-requires c κs = search needs
 
-choose-reply-requires : tie.Need-choose-reply-requires
-choose-reply-requires c κs = search needs
+choose-done-requires : tie.Need-choose-done-requires
+choose-done-requires c κs = search needs
 
 returns : tie.Need-returns
 returns c = search (needs, choose-answers)
 
 pub do-choose-spec : {M : Type 1} → statement M
-do-choose-spec = tie.close (tie.spec choose-requires choose-reply-requires returns)
+do-choose-spec = tie.close (tie.spec choose-requires choose-done-requires returns)

@@ -15,7 +15,7 @@ same-length : tie.Need-same-length
 same-length c = search needs
 
 returns : tie.Need-returns
-returns c = responds _ _ _ _ _ (c .before .before .before .before .before .before .before .before .before .before .before .before .args .rec .now) _ _ _ _ _ _ (c .printed .ensures) (c .before .before .before .before .before .answer .ensures)
+returns c = search (needs, responds)
 
 pub respond-spec : {M : Type 1} → statement M
 respond-spec = tie.close (tie.spec answer-requires printed-requires same-length returns)

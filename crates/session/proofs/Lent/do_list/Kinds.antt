@@ -11,10 +11,9 @@ use borrow.Kind.ShrSlice
 use denote.Array
 use mathlib.Core.List
 use mathlib.Core.List.{[], _∷_}
-
-abbrev pub ps : List.List (Kinds.PK 5)
+abbrev pub ps : List.List (Kinds.PK 4)
 ps = (L.p Session.the-type Laws'.the-laws Laws'.the-copy Laws'.the-plain) ∷ Kinds.pMut (Array.Array L.u64 928) 0 tt ∷ MutSlice.pMutS S.row 1 tt ∷ ShrSlice.pShrS L.u8 2 tt ∷ Kinds.pBool ∷
-    MutSlice.pMutS L.u64 3 tt ∷ Kinds.pMut (Array.Array L.u64 6912) 4 tt ∷ []
+    Kinds.pMut (Array.Array L.u64 6912) 3 tt ∷ []
 
-abbrev pub r : Kinds.RK 5
+abbrev pub r : Kinds.RK 4
 r = L.r Replied.the-type Laws.the-laws Laws.the-copy Laws.the-plain

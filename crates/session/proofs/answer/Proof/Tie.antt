@@ -12,8 +12,9 @@ use Rattle.session.proofs.Lent.answer.Kinds
 use Rattle.session.proofs.Lent.answer.Reads as Reads'3
 use Rattle.session.proofs.Lent.do_add.Reads as Reads'4
 use Rattle.session.proofs.Lent.do_choose.Reads as Reads'5
-use Rattle.session.proofs.Lent.do_list.Reads as Reads'6
-use Rattle.session.proofs.Lent.do_set_up.Reads as Reads'9
+use Rattle.session.proofs.Lent.do_choose_within.Reads as Reads'6
+use Rattle.session.proofs.Lent.do_list.Reads as Reads'7
+use Rattle.session.proofs.Lent.do_set_up.Reads as Reads'10
 use Rattle.session.proofs.answer.Code
 use Rattle.session.proofs.answer.Key
 use Rattle.session.proofs.answer.Proof.Lts
@@ -22,41 +23,24 @@ use Rattle.session.proofs.do_add.Met as Met'3
 use Rattle.session.proofs.do_add.Symbol as Symbol'3
 use Rattle.session.proofs.do_choose.Met as Met'4
 use Rattle.session.proofs.do_choose.Symbol as Symbol'4
-use Rattle.session.proofs.do_list.Met as Met'5
-use Rattle.session.proofs.do_list.Symbol as Symbol'5
-use Rattle.session.proofs.do_next_key.Met as Met'6
-use Rattle.session.proofs.do_next_key.Reads as Reads'7
-use Rattle.session.proofs.do_next_key.Symbol as Symbol'6
-use Rattle.session.proofs.do_no_writers.Met as Met'7
-use Rattle.session.proofs.do_no_writers.Reads as Reads'8
-use Rattle.session.proofs.do_no_writers.Symbol as Symbol'7
-use Rattle.session.proofs.do_set_up.Met as Met'8
-use Rattle.session.proofs.do_set_up.Symbol as Symbol'8
+use Rattle.session.proofs.do_choose_within.Met as Met'5
+use Rattle.session.proofs.do_choose_within.Symbol as Symbol'5
+use Rattle.session.proofs.do_list.Met as Met'6
+use Rattle.session.proofs.do_list.Symbol as Symbol'6
+use Rattle.session.proofs.do_next_key.Met as Met'7
+use Rattle.session.proofs.do_next_key.Reads as Reads'8
+use Rattle.session.proofs.do_next_key.Symbol as Symbol'7
+use Rattle.session.proofs.do_no_writers.Met as Met'8
+use Rattle.session.proofs.do_no_writers.Reads as Reads'9
+use Rattle.session.proofs.do_no_writers.Symbol as Symbol'8
+use Rattle.session.proofs.do_set_up.Met as Met'9
+use Rattle.session.proofs.do_set_up.Symbol as Symbol'9
 use borrow.Fn.Run
 use borrow.Fn.Written
 use contract.Running
-
 abbrev claims : Lts.Claims
-claims = (
-  Reads.Asked,
-  Reads.Learnt,
-  Reads''.Asked,
-  Reads''.Learnt,
-  Reads'.Asked,
-  Reads'.Learnt,
-  Reads'9.Asked,
-  Reads'9.Learnt,
-  Reads'4.Asked,
-  Reads'4.Learnt,
-  Reads'8.Asked,
-  Reads'8.Learnt,
-  Reads'5.Asked,
-  Reads'5.Learnt,
-  Reads'6.Asked,
-  Reads'6.Learnt,
-  Reads'7.Asked,
-  Reads'7.Learnt,
-)
+claims = (Reads.Asked, Reads.Learnt, Reads''.Asked, Reads''.Learnt, Reads'.Asked, Reads'.Learnt, Reads'10.Asked, Reads'10.Learnt, Reads'4.Asked, Reads'4.Learnt, Reads'9.Asked,
+    Reads'9.Learnt, Reads'5.Asked, Reads'5.Learnt, Reads'6.Asked, Reads'6.Learnt, Reads'7.Asked, Reads'7.Learnt, Reads'8.Asked, Reads'8.Learnt)
 
 abbrev pub Start : Type 0
 Start = Lts.Start claims Reads'3.Pre Reads'3.Post
@@ -169,17 +153,17 @@ After-op5 = Lts.After-op5 claims Reads'3.Pre Reads'3.Post
 abbrev pub After-known-told5 : Type 0
 After-known-told5 = Lts.After-known-told5 claims Reads'3.Pre Reads'3.Post
 
-abbrev pub After-do-choose-arg4 : Type 0
-After-do-choose-arg4 = Lts.After-do-choose-arg4 claims Reads'3.Pre Reads'3.Post
+abbrev pub After-do-choose-within-arg : Type 0
+After-do-choose-within-arg = Lts.After-do-choose-within-arg claims Reads'3.Pre Reads'3.Post
 
-abbrev pub After-do-choose-arg5 : Type 0
-After-do-choose-arg5 = Lts.After-do-choose-arg5 claims Reads'3.Pre Reads'3.Post
+abbrev pub After-do-choose-within-arg2 : Type 0
+After-do-choose-within-arg2 = Lts.After-do-choose-within-arg2 claims Reads'3.Pre Reads'3.Post
 
-abbrev pub After-do-choose-arg6 : Type 0
-After-do-choose-arg6 = Lts.After-do-choose-arg6 claims Reads'3.Pre Reads'3.Post
+abbrev pub After-do-choose-within-arg3 : Type 0
+After-do-choose-within-arg3 = Lts.After-do-choose-within-arg3 claims Reads'3.Pre Reads'3.Post
 
-abbrev pub After-do-choose2 : Type 0
-After-do-choose2 = Lts.After-do-choose2 claims Reads'3.Pre Reads'3.Post
+abbrev pub After-do-choose-within : Type 0
+After-do-choose-within = Lts.After-do-choose-within claims Reads'3.Pre Reads'3.Post
 
 abbrev pub At-match-keys6 : Type 0
 At-match-keys6 = Lts.At-match-keys6 claims Reads'3.Pre Reads'3.Post
@@ -196,9 +180,6 @@ After-do-list-arg2 = Lts.After-do-list-arg2 claims Reads'3.Pre Reads'3.Post
 abbrev pub After-do-list-arg3 : Type 0
 After-do-list-arg3 = Lts.After-do-list-arg3 claims Reads'3.Pre Reads'3.Post
 
-abbrev pub After-do-list-arg4 : Type 0
-After-do-list-arg4 = Lts.After-do-list-arg4 claims Reads'3.Pre Reads'3.Post
-
 abbrev pub After-do-list : Type 0
 After-do-list = Lts.After-do-list claims Reads'3.Pre Reads'3.Post
 
@@ -211,17 +192,14 @@ At-match-keys7 = Lts.At-match-keys7 claims Reads'3.Pre Reads'3.Post
 abbrev pub After-enum-told2 : Type 0
 After-enum-told2 = Lts.After-enum-told2 claims Reads'3.Pre Reads'3.Post
 
+abbrev pub After-do-list-arg4 : Type 0
+After-do-list-arg4 = Lts.After-do-list-arg4 claims Reads'3.Pre Reads'3.Post
+
 abbrev pub After-do-list-arg5 : Type 0
 After-do-list-arg5 = Lts.After-do-list-arg5 claims Reads'3.Pre Reads'3.Post
 
 abbrev pub After-do-list-arg6 : Type 0
 After-do-list-arg6 = Lts.After-do-list-arg6 claims Reads'3.Pre Reads'3.Post
-
-abbrev pub After-do-list-arg7 : Type 0
-After-do-list-arg7 = Lts.After-do-list-arg7 claims Reads'3.Pre Reads'3.Post
-
-abbrev pub After-do-list-arg8 : Type 0
-After-do-list-arg8 = Lts.After-do-list-arg8 claims Reads'3.Pre Reads'3.Post
 
 abbrev pub After-do-list2 : Type 0
 After-do-list2 = Lts.After-do-list2 claims Reads'3.Pre Reads'3.Post
@@ -292,8 +270,8 @@ Need-do-choose-requires = Lts.Need-do-choose-requires claims Reads'3.Pre Reads'3
 abbrev pub Need-enum-known-op-5 : Type 0
 Need-enum-known-op-5 = Lts.Need-enum-known-op-5 claims Reads'3.Pre Reads'3.Post
 
-abbrev pub Need-do-choose-requires-2 : Type 0
-Need-do-choose-requires-2 = Lts.Need-do-choose-requires-2 claims Reads'3.Pre Reads'3.Post
+abbrev pub Need-do-choose-within-requires : Type 0
+Need-do-choose-within-requires = Lts.Need-do-choose-within-requires claims Reads'3.Pre Reads'3.Post
 
 abbrev pub Need-enum-told : Type 0
 Need-enum-told = Lts.Need-enum-told claims Reads'3.Pre Reads'3.Post
@@ -367,7 +345,7 @@ Need-returns-10 = Lts.Need-returns-10 claims Reads'3.Pre Reads'3.Post
 module _ {M : Type 1} where
   pub spec : (answer : Need-decode-requires) → (answer : Need-refusal-requires) → (answer : Need-declined-requires) → (answer : Need-returns) → (answer : Need-enum-known-op) → (answer :
       Need-do-set-up-requires) → (answer : Need-enum-known-op-2) → (answer : Need-do-add-requires) → (answer : Need-enum-known-op-3) → (answer : Need-do-no-writers-requires) → (answer :
-      Need-enum-known-op-4) → (answer : Need-do-choose-requires) → (answer : Need-enum-known-op-5) → (answer : Need-do-choose-requires-2) → (answer : Need-enum-told) → (answer :
+      Need-enum-known-op-4) → (answer : Need-do-choose-requires) → (answer : Need-enum-known-op-5) → (answer : Need-do-choose-within-requires) → (answer : Need-enum-told) → (answer :
       Need-do-list-requires) → (answer : Need-enum-told-2) → (answer : Need-do-list-requires-2) → (answer : Need-enum-known-op-6) → (answer : Need-do-next-key-requires) → (answer :
       Need-enum-told-3) → (answer : Need-declined-requires-2) → (answer : Need-same-length) → (answer : Need-returns-2) → (answer : Need-same-length-2) → (answer : Need-returns-3) → (answer
       : Need-returns-4) → (answer : Need-same-length-3) → (answer : Need-returns-5) → (answer : Need-same-length-4) → (answer : Need-returns-6) → (answer : Need-same-length-5) → (answer :
@@ -381,27 +359,16 @@ module _ {M : Type 1} where
   -- antt refused `close` as it was built: the module's report says why
   pub close : Lts.Closed claims Reads'3.Pre Reads'3.Post M → Statement.statement M
   unfolding Code.routine Running.tablesOf
-  close = λ closed 𝓤 H 𝓜 𝓖 𝓡. Written.close 6 Kinds.ps Kinds.r Reads'3.Ghost Reads'3.requires Reads'3.ensures Reads'3.pre-read Reads'3.Pinned Reads'3.Owned Reads'3.post-read record {
-    M = M;
-    𝓤 = 𝓤;
-    H = H;
-    𝓜 = 𝓜;
-    𝓖 = 𝓖;
-    𝓡 = 𝓡;
-  } Code.env Key.name Code.function (Code.unfolded 𝓤 H 𝓜 𝓡) (λ κs a g. tt) (λ κs. Reads'3.owns κs record { M = M; 𝓤 = 𝓤; H = H; 𝓜 = 𝓜; 𝓖 = 𝓖; 𝓡 = 𝓡 })
-      (Reads'3.passes record { M = M; 𝓤 = 𝓤; H = H; 𝓜 = 𝓜; 𝓖 = 𝓖; 𝓡 = 𝓡 }) λ g. closed 𝓤 H (𝓖 .A) (Running.givenOf 𝓤 H 𝓜 𝓖) (Run.Over 𝓤 H 𝓜 𝓖 𝓡 Code.env) (Reads.known record {
-        M = M;
-        𝓤 = 𝓤;
-        H = H;
-        𝓜 = 𝓜;
-        𝓖 = 𝓖;
-        𝓡 = 𝓡;
-      } Code.env Symbol.name Symbol.routine Code.calls-records·decode (Met.met 𝓤 H 𝓜 𝓖 𝓡)) (Reads''.known record { M = M; 𝓤 = 𝓤; H = H; 𝓜 = 𝓜; 𝓖 = 𝓖; 𝓡 = 𝓡 }
+  close = λ closed 𝓤 H 𝓜 𝓖 𝓡. Written.close 5 Kinds.ps Kinds.r Reads'3.Ghost Reads'3.requires Reads'3.ensures Reads'3.pre-read Reads'3.Pinned Reads'3.Owned Reads'3.post-read record { M = M;
+      𝓤 = 𝓤; H = H; 𝓜 = 𝓜; 𝓖 = 𝓖; 𝓡 = 𝓡 } Code.env Key.name Code.function (Code.unfolded 𝓤 H 𝓜 𝓡) (λ κs a g. tt) (λ κs. Reads'3.owns κs record { M = M; 𝓤 = 𝓤; H = H; 𝓜 = 𝓜; 𝓖 = 𝓖; 𝓡 = 𝓡 })
+      (Reads'3.passes record { M = M; 𝓤 = 𝓤; H = H; 𝓜 = 𝓜; 𝓖 = 𝓖; 𝓡 = 𝓡 }) λ g. closed 𝓤 H (𝓖 .A) (Running.givenOf 𝓤 H 𝓜 𝓖) (Run.Over 𝓤 H 𝓜 𝓖 𝓡 Code.env) (Reads.known record { M = M; 𝓤 = 𝓤;
+      H = H; 𝓜 = 𝓜; 𝓖 = 𝓖; 𝓡 = 𝓡 } Code.env Symbol.name Symbol.routine Code.calls-records·decode (Met.met 𝓤 H 𝓜 𝓖 𝓡)) (Reads''.known record { M = M; 𝓤 = 𝓤; H = H; 𝓜 = 𝓜; 𝓖 = 𝓖; 𝓡 = 𝓡 }
       Code.env Symbol''.name Symbol''.routine Code.calls-replies·refusal (Met''.met 𝓤 H 𝓜 𝓖 𝓡)) (Reads'.known record { M = M; 𝓤 = 𝓤; H = H; 𝓜 = 𝓜; 𝓖 = 𝓖; 𝓡 = 𝓡 } Code.env Symbol'.name
-      Symbol'.routine Code.calls-replies·declined (Met'.met 𝓤 H 𝓜 𝓖 𝓡)) (Reads'9.known record { M = M; 𝓤 = 𝓤; H = H; 𝓜 = 𝓜; 𝓖 = 𝓖; 𝓡 = 𝓡 } Code.env Symbol'8.name Symbol'8.routine
-      Code.calls-session·do-set-up (Met'8.met 𝓤 H 𝓜 𝓖 𝓡)) (Reads'4.known record { M = M; 𝓤 = 𝓤; H = H; 𝓜 = 𝓜; 𝓖 = 𝓖; 𝓡 = 𝓡 } Code.env Symbol'3.name Symbol'3.routine
-      Code.calls-session·do-add (Met'3.met 𝓤 H 𝓜 𝓖 𝓡)) (Reads'8.known record { M = M; 𝓤 = 𝓤; H = H; 𝓜 = 𝓜; 𝓖 = 𝓖; 𝓡 = 𝓡 } Code.env Symbol'7.name Symbol'7.routine
-      Code.calls-session·do-no-writers (Met'7.met 𝓤 H 𝓜 𝓖 𝓡)) (Reads'5.known record { M = M; 𝓤 = 𝓤; H = H; 𝓜 = 𝓜; 𝓖 = 𝓖; 𝓡 = 𝓡 } Code.env Symbol'4.name Symbol'4.routine
+      Symbol'.routine Code.calls-replies·declined (Met'.met 𝓤 H 𝓜 𝓖 𝓡)) (Reads'10.known record { M = M; 𝓤 = 𝓤; H = H; 𝓜 = 𝓜; 𝓖 = 𝓖; 𝓡 = 𝓡 } Code.env Symbol'9.name Symbol'9.routine
+      Code.calls-session·do-set-up (Met'9.met 𝓤 H 𝓜 𝓖 𝓡)) (Reads'4.known record { M = M; 𝓤 = 𝓤; H = H; 𝓜 = 𝓜; 𝓖 = 𝓖; 𝓡 = 𝓡 } Code.env Symbol'3.name Symbol'3.routine
+      Code.calls-session·do-add (Met'3.met 𝓤 H 𝓜 𝓖 𝓡)) (Reads'9.known record { M = M; 𝓤 = 𝓤; H = H; 𝓜 = 𝓜; 𝓖 = 𝓖; 𝓡 = 𝓡 } Code.env Symbol'8.name Symbol'8.routine
+      Code.calls-session·do-no-writers (Met'8.met 𝓤 H 𝓜 𝓖 𝓡)) (Reads'5.known record { M = M; 𝓤 = 𝓤; H = H; 𝓜 = 𝓜; 𝓖 = 𝓖; 𝓡 = 𝓡 } Code.env Symbol'4.name Symbol'4.routine
       Code.calls-session·do-choose (Met'4.met 𝓤 H 𝓜 𝓖 𝓡)) (Reads'6.known record { M = M; 𝓤 = 𝓤; H = H; 𝓜 = 𝓜; 𝓖 = 𝓖; 𝓡 = 𝓡 } Code.env Symbol'5.name Symbol'5.routine
-      Code.calls-session·do-list (Met'5.met 𝓤 H 𝓜 𝓖 𝓡)) (Reads'7.known record { M = M; 𝓤 = 𝓤; H = H; 𝓜 = 𝓜; 𝓖 = 𝓖; 𝓡 = 𝓡 } Code.env Symbol'6.name Symbol'6.routine
-      Code.calls-session·do-next-key (Met'6.met 𝓤 H 𝓜 𝓖 𝓡))
+      Code.calls-session·do-choose-within (Met'5.met 𝓤 H 𝓜 𝓖 𝓡)) (Reads'7.known record { M = M; 𝓤 = 𝓤; H = H; 𝓜 = 𝓜; 𝓖 = 𝓖; 𝓡 = 𝓡 } Code.env Symbol'6.name Symbol'6.routine
+      Code.calls-session·do-list (Met'6.met 𝓤 H 𝓜 𝓖 𝓡)) (Reads'8.known record { M = M; 𝓤 = 𝓤; H = H; 𝓜 = 𝓜; 𝓖 = 𝓖; 𝓡 = 𝓡 } Code.env Symbol'7.name Symbol'7.routine
+      Code.calls-session·do-next-key (Met'7.met 𝓤 H 𝓜 𝓖 𝓡))
