@@ -1,3 +1,4 @@
-pub mod Runs
+pub mod Meets
 pub mod Calls
+pub mod Runs
 pub mod OneOutcome

@@ -1,54 +1,46 @@
--- Demands 1 to 3, said of the code: any calls, each on what the one before left, answer as the model does.
---
--- The contracts of the public functions of datasample_cache and the crates beside it say of one call what `Meets` says (`Calls.antt`
--- has that of each). `code-runs` puts calls in a row; with `demand3` of the crate model it gives `code-demand3`.
+-- Demands 1 to 3, said of the code: after an accepted set-up any calls of the public functions, each on what the one before left, answer as the model does;
+-- so demand 3 holds of them, and on the common ground they answer as the Rust does.
 use mathlib.Core.Path.{_≡_}
 use mathlib.Core.Bool.{true}
-use mathlib.Core.List.{List, [], _∷_}
+use mathlib.Core.List.{List, [], _∷_, map}
 use Prim.Native.Nat.{ℕ}
+use lib.ListN.{length}
+use denote.Ref.{RefT, now}
 use Rattle.sampleinfo.specs.declared.Sample.{Sample}
-use Rattle.model.specs.Model.{Model, SetUp, Call, Answer, Step, within, keepOf, fresh, step, answers}
-use Rattle.model.specs.Story.{run, trace}
+use Rattle.model.specs.Model.{Model, SetUp, Call, Answer, within, keepOf, fresh, step, answers}
+use Rattle.model.specs.Story.{run, trace, liveAt}
 use Rattle.model.specs.Demand3.{Demand3}
 use Rattle.model.proofs.Demand3.{demand3}
+use Rattle.rust_model.specs.Maps.{gives}
+use Rattle.rust_model.specs.DataSampleCache.{DataSampleCache, new}
+use Rattle.rust_model.specs.Ground.{Ground}
+use Rattle.rust_model.specs.Equal as rust
+use Rattle.rust_model.proofs.Equal.{equal-to-the-rust}
 use Rattle.index.specs.declared.Cache.{Cache}
 use Rattle.refine.specs.Good.{Good}
 use Rattle.refine.specs.GoodLaws.{good-step, good-run}
-use Rattle.memory.specs.Lies.{Lies}
-use Rattle.datasample_access.specs.Listed.{Told}
-use Rattle.datasample_access.specs.declared.Listed.{Listed}
+use Rattle.datasample_cache.specs.declared.SetUpOutcome.{SetUpOutcome}
+use Rattle.demands.specs.Meets.{Memory, Holds, Seen, Means, Meets}
+use Rattle.demands.specs.Calls.{holding, SetUpCall, Called, OddCalled, called-meets, odd-stays, set-up-begins}
 
--- what the caller holds between two calls: the header, the lent words and the lent table
-pub record Memory : Type 0 where
+-- calls in a row, each on what the one before left: the calls, what was seen of each, and the memory at the end. Calls with an odd key list may stand between
+pub data Calls : Memory → List Call → List Seen → Memory → Type 0 where
+  done : {x : Memory} → Calls x [] [] x
+  then : {x y z : Memory} {c : Call} {cs : List Call} {ss : List Seen} (a : Seen) → Called c x a y → Calls y cs ss z → Calls x (c ∷ cs) (a ∷ ss) z
+  odd : {x y z : Memory} {cs : List Call} {ss : List Seen} (a : Seen) → OddCalled x a y → Calls y cs ss z → Calls x cs ss z
+
+-- from a set-up within its bounds on any memory with a table of 256 records
+pub record Runs (u : SetUp) (cs : List Call) (ss : List Seen) (z : Memory) : Type 0 where
+  pub bounds : within u ≡ true
   pub head : Cache
-  pub words : List ℕ
-  pub table : List Sample
-
-abbrev pub Holds : Model → Memory → Type 0
-Holds m x = Lies m (x .head) (x .words) (x .table)
-
--- what the caller sees of an answer: its number and values, or, of a read or a take, the result buffer before and after too
-pub data Seen : Type 0 where
-  said : Answer → Seen
-  shown : Listed → List ℕ → List ℕ → Seen
-
-abbrev pub Means : Seen → Answer → Type 0
-Means (said a) b = a ≡ b
-Means (shown r out after) b = Told b r out after
-
--- what a contract says of one call: on the memory of any cache that only the calls have changed, the answer and the memory left are the model's
-abbrev pub Meets : Call → Memory → Seen → Memory → Type 0
-Meets c x a y = (m : Model) → Good m → Holds m x → Means a (step m c .answer) × Holds (step m c .then) y
-
--- what a contract says of a call that the model does not have, a key list not of whole pairs: refusal 1, and all stays
-abbrev pub Stays : Memory → Seen → Memory → Type 0
-Stays x a y = (m : Model) → Good m → Holds m x → Means a (Answer.refused 1) × Holds m y
-
--- calls in a row, each on what the one before left: the calls, what was seen of each, and the memory at the end
-pub data Runs : Memory → List Call → List Seen → Memory → Type 0 where
-  done : {x : Memory} → Runs x [] [] x
-  then : {x y z : Memory} {c : Call} {cs : List Call} {ss : List Seen} (a : Seen) → Meets c x a y → Runs y cs ss z → Runs x (c ∷ cs) (a ∷ ss) z
-  odd : {x y z : Memory} {cs : List Call} {ss : List Seen} (a : Seen) → Stays x a y → Runs y cs ss z → Runs x cs ss z
+  pub words : RefT (List ℕ)
+  pub table : RefT (List Sample)
+  pub long : length (now table) ≡ 256
+  pub words′ : RefT (List ℕ)
+  pub table′ : RefT (List Sample)
+  pub outcome : SetUpOutcome
+  pub set-up : SetUpCall head words table u outcome words′ table′
+  pub calls : Calls (holding (outcome .head) words′ table′) cs ss z
 
 -- each is what was seen of the answer beside it
 abbrev pub Agree : List Seen → List Answer → Type 0
@@ -57,27 +49,52 @@ Agree [] (b ∷ bs) = ⊥
 Agree (a ∷ ss) [] = ⊥
 Agree (a ∷ ss) (b ∷ bs) = Means a b × Agree ss bs
 
--- the answers are the model's, and the memory at the end is the model's
-runs-from : {x z : Memory} {cs : List Call} {ss : List Seen} → Runs x cs ss z → (m : Model) → Good m → Holds m x → Agree ss (answers m cs) × Holds (run m cs) z
-unfolding run answers
-runs-from done m g l = (tt, l)
-runs-from (then {y = y} {z = z} {c = c} {cs = cs} {ss = ss} a h r) m g l =
-    let one : Means a (step m c .answer) × Holds (step m c .then) y = h m g l in
-    let rest : Agree ss (answers (step m c .then) cs) × Holds (run (step m c .then) cs) z = runs-from r (step m c .then) (good-step m g c) (one .1) in
-    ((one .0, rest .0), rest .1)
-runs-from (odd a h r) m g l = runs-from r m g (h m g l .1)
+abbrev made : SetUp → Model
+made u = fresh (keepOf u) (u .instances)
 
--- after an accepted set-up, any calls
-pub code-runs : (u : SetUp) → within u ≡ true → {x z : Memory} {cs : List Call} {ss : List Seen} → Holds (fresh (keepOf u) (u .instances)) x → Runs x cs ss z
-    → Agree ss (answers (fresh (keepOf u) (u .instances)) cs) × Holds (run (fresh (keepOf u) (u .instances)) cs) z
+calls-from : {x z : Memory} {cs : List Call} {ss : List Seen} → Calls x cs ss z → (m : Model) → Good m → Holds m x → Agree ss (answers m cs) × Holds (run m cs) z
+unfolding run answers
+calls-from done m g l = (tt, l)
+calls-from (then {y = y} {z = z} {c = c} {cs = cs} {ss = ss} a h r) m g l =
+    let one : Means a (step m c .answer) × Holds (step m c .then) y = called-meets h m g l in
+    let rest : Agree ss (answers (step m c .then) cs) × Holds (run (step m c .then) cs) z = calls-from r (step m c .then) (good-step m g c) (one .1) in
+    ((one .0, rest .0), rest .1)
+calls-from (odd a h r) m g l = calls-from r m g (odd-stays h m g l .1)
+
+-- the answers are the model's, and the memory at the end is the model's
+pub code-runs : {u : SetUp} {cs : List Call} {ss : List Seen} {z : Memory} → Runs u cs ss z → Agree ss (answers (made u) cs) × Holds (run (made u) cs) z
 unfolding run
-code-runs u w l r = runs-from r (fresh (keepOf u) (u .instances)) (good-run u w []) l
+code-runs {u = u} r =
+    calls-from (r .calls) (made u) (good-run u (r .bounds) []) (set-up-begins (r .head) (r .words) (r .words′) (r .table) (r .table′) u (r .outcome) (r .long) (r .bounds) (r .set-up))
 
 -- demand 3 of what the code left and of the answers that were seen of it
 pub record Kept3 (u : SetUp) (cs : List Call) (ss : List Seen) (z : Memory) : Type 0 where
-  pub seen : Agree ss (answers (fresh (keepOf u) (u .instances)) cs)
-  pub left : Holds (run (fresh (keepOf u) (u .instances)) cs) z
-  pub kept : Demand3 (keepOf u) (run (fresh (keepOf u) (u .instances)) cs) (trace (fresh (keepOf u) (u .instances)) cs)
+  pub seen : Agree ss (answers (made u) cs)
+  pub left : Holds (run (made u) cs) z
+  pub kept : Demand3 (keepOf u) (run (made u) cs) (trace (made u) cs)
 
-pub code-demand3 : (u : SetUp) → within u ≡ true → {x z : Memory} {cs : List Call} {ss : List Seen} → Holds (fresh (keepOf u) (u .instances)) x → Runs x cs ss z → Kept3 u cs ss z
-code-demand3 u w {cs = cs} l r = let all = code-runs u w l r in record { seen = all .0; left = all .1; kept = demand3 u w cs }
+pub code-demand3 : {u : SetUp} {cs : List Call} {ss : List Seen} {z : Memory} → Runs u cs ss z → Kept3 u cs ss z
+code-demand3 {u = u} {cs = cs} r = let all = code-runs r in record { seen = all .0; left = all .1; kept = demand3 u (r .bounds) cs }
+
+-- "All of it equals the Rust on the common ground": what was seen of the code is what the Rust replies, slots excepted; the Rust does not panic; and the
+-- memory is that of a cache whose instances hold what the Rust holds of them, under the same keys
+pub record AsTheRust (u : SetUp) (cs : List Call) (ss : List Seen) (z : Memory) : Type 0 where
+  pub said : List Answer
+  pub seen : Agree ss said
+  pub same-answers : rust.replies (new (rust.qosOf u)) cs ≡ map rust.seen said
+  pub model : Model
+  pub left : Holds model z
+  pub same-held : (now : DataSampleCache) × (rust.cacheAfter (new (rust.qosOf u)) cs ≡ gives now) × ((n : ℕ) → rust.heldOf n (now .datasamples) ≡ map rust.keyedSample (liveAt n model))
+
+pub code-equals-the-rust : {u : SetUp} {cs : List Call} {ss : List Seen} {z : Memory} → Runs u cs ss z → Ground (made u) [] cs → AsTheRust u cs ss z
+code-equals-the-rust {u = u} {cs = cs} r g =
+    let all = code-runs r in
+    let same = equal-to-the-rust u (r .bounds) cs g in
+    record {
+      said = answers (made u) cs;
+      seen = all .0;
+      same-answers = same .same-answers;
+      model = run (made u) cs;
+      left = all .1;
+      same-held = same .same-held;
+    }
