@@ -1,93 +1,24 @@
 // The session program: records on standard input, their lines on standard output. It owns the sample table and the index, and answers each record
-// before it waits for the next one. With an argument (--full) it also prints the writer and the sequence number of each info, for the comparison with
-// the Rust.
+// before it waits for the next one. With --full it also prints the writer and the sequence number of each info, for the comparison with the Rust.
 ghost use Prim.Native.Nat.{_≤_, _<_};
+ghost use mathlib.Core.Path.{_≡_};
+ghost use mathlib.Core.Option.{Option};
 ghost use lib.ListN.{length};
-ghost use Rattle.session.specs.Stands.{Standing};
-ghost use Rattle.session_main.specs.FrontLaws.{Most};
+ghost use Rattle.sampleinfo.specs.Samples.{emptySample};
+ghost use Rattle.model.specs.Model.{Model};
+ghost use Rattle.session.specs.Stands.{Stands};
+ghost use Rattle.session_main.specs.RecordLaws.{stoppedAt, Turned};
+use frames::Piece;
+use frames::Told;
 use replies::Session;
 
-// A record that is cut off, or a wrong version.
-fn cut_off() {
-    io::write_all(1, b"refused 1\n");
-}
-
-// ---- the input
-
-fn version_is_known() -> bool {
-    let mut one = [0u8; 1];
-    let got = io::read_full(0, &mut one);
-    if got != 1 {
-        return false;
-    }
-    one[0] == 1
-}
+// ---- what a session does not print of an info, for the comparison with the Rust
 
 fn wide(x: u8) -> usize
     ensures { λ r. ⌜ r < 256 ⌝ }
 {
     x as usize
 }
-
-fn at_most(n: usize, most: usize) -> usize
-    ensures { λ r. ⌜ Most n most r ⌝ }
-{
-    if n < most {
-        return n;
-    }
-    most
-}
-
-// What a record's two length bytes say, or that the input ends before them or within them.
-struct Head {
-    go: bool,
-    size: usize,
-}
-
-fn next_head() -> Head
-    ensures { λ r. ⌜ r .size < 65536 ⌝ }
-{
-    let mut two = [0u8; 2];
-    let got = io::read_full(0, &mut two);
-    if got == 0 {
-        return Head { go: false, size: 0 };
-    }
-    if got != 2 {
-        cut_off();
-        return Head { go: false, size: 0 };
-    }
-    Head {
-        go: true,
-        size: wide(two[0]) * 256 + wide(two[1]),
-    }
-}
-
-// The next record goes to the front of the lent bytes. Where there is none, or it is cut off, the session ends.
-fn next_record(rec: &mut [u8]) -> Head
-    ensures { λ r. ⌜ (r .size ≤ length (now (rec .exit))) × (r .size < 65536) ⌝ }
-{
-    let head = next_head();
-    if !head.go {
-        return Head { go: false, size: 0 };
-    }
-    let n = at_most(head.size, rec.len());
-    let got = io::read_full(0, &mut rec[..n]);
-    if got != head.size {
-        cut_off();
-        return Head { go: false, size: 0 };
-    }
-    Head { go: true, size: n }
-}
-
-// ---- the output
-
-// Whether the lines could be written: a closed output ends the session.
-fn tell(line: &[u8], size: usize) -> bool {
-    let n = at_most(size, line.len());
-    io::write_all(1, &line[..n])
-}
-
-// ---- what a session does not print of an info, for the comparison with the Rust
 
 // The number behind "samples "; 0 where the line starts otherwise.
 fn samples_told(line: &[u8]) -> usize {
@@ -116,50 +47,86 @@ fn samples_told(line: &[u8]) -> usize {
     n
 }
 
-fn hex(d: u8) -> u8 {
-    if d < 10 {
-        return 48 + d;
-    }
-    if d < 16 {
-        return 87 + d;
-    }
-    63
-}
-
-// A byte as two hex digits.
-fn put_hex(x: u8) {
-    let text = [hex(x / 16), hex(x % 16)];
-    io::write_all(1, &text);
-}
-
-fn tell_writer(writer: [u8; 16]) {
+fn tell_writer(writer: [u8; 16]) -> bool {
     let mut i = 0;
     while i < 16 {
-        put_hex(writer[i]);
+        if !io::print_hex(1, writer[i] as u64, 2) {
+            return false;
+        }
         i += 1;
     }
+    true
+}
+
+fn tell_info(writer: [u8; 16], sequence_number: u64) -> bool {
+    if !tell_writer(writer) {
+        return false;
+    }
+    if !io::write_all(1, b" ") {
+        return false;
+    }
+    if !io::print_decimal(1, sequence_number) {
+        return false;
+    }
+    io::write_all(1, b"\n")
 }
 
 // A line for each info: its writer and its sequence number.
-fn tell_writers(infos: &[u64], n: usize) {
+fn tell_writers(infos: &[u64], n: usize) -> bool {
     let mut p = 0;
     while p < n {
         let info = infos::get_info(infos, p);
         let writer = info.publication_handle;
-        tell_writer(writer);
-        io::write_all(1, b" ");
-        io::print_decimal(1, info.sequence_number);
-        io::write_all(1, b"\n");
+        if !tell_info(writer, info.sequence_number) {
+            return false;
+        }
         p += 1;
+    }
+    true
+}
+
+// ---- the output
+
+fn tell_more(full: bool, told: Told, line: &[u8], infos: &[u64]) -> bool {
+    if !told.go {
+        return false;
+    }
+    if !full {
+        return true;
+    }
+    tell_writers(infos, samples_told(line))
+}
+
+// The lines of a record. A failed write ends the session, and is told.
+fn tell_all(full: bool, line: &[u8], size: usize, infos: &[u64]) -> Told
+    ensures { λ r. ⌜ (size ≤ length (now (line .entry)) → r .size ≡ size) ⌝ }
+{
+    let told = frames::tell(line, size);
+    let go = tell_more(full, told, line, infos);
+    if !go {
+        frames::fail(b"session_main: write");
+    }
+    Told {
+        go: go,
+        size: told.size,
     }
 }
 
-fn tell_all(full: bool, line: &[u8], size: usize, infos: &[u64]) -> bool {
-    let go = tell(line, size);
-    if full {
-        tell_writers(infos, samples_told(line));
+// "A missing or wrong version byte or a cut-off record prints it and stops."
+fn cut_off() {
+    if !io::write_all(1, b"refused 1\n") {
+        frames::fail(b"session_main: write");
     }
-    go
+}
+
+// No whole piece of the input came: its end, a cut-off piece, or a failed read.
+fn over(piece: Piece) {
+    if piece.cut {
+        cut_off();
+    }
+    if piece.failed {
+        frames::fail(b"session_main: read");
+    }
 }
 
 // ---- a record
@@ -167,57 +134,118 @@ fn tell_all(full: bool, line: &[u8], size: usize, infos: &[u64]) -> bool {
 struct After {
     session: Session,
     go: bool,
+    // how many of the lent bytes were handed to the output
+    told: usize,
+}
+
+fn stopped(s: Session, piece: Piece) -> After
+    ensures { λ r. ⌜ r ≡ stoppedAt s ⌝ }
+{
+    over(piece);
+    After {
+        session: s,
+        go: false,
+        told: 0,
+    }
 }
 
 fn one_record(
     s: Session,
     ws: &mut [u64; 928],
     t: &mut [sampleinfo::Sample],
+    two: &mut [u8],
     rec: &mut [u8],
-    list: &mut [u64; 8190],
     pairs: &mut [u64; 512],
     infos: &mut [u64; 6912],
     line: &mut [u8; 66048],
     full: bool,
 ) -> After
-    ensures { λ r. ⌜ (Standing s (now (ws .entry)) (now (t .entry)) → Standing (r .session) (now (ws .exit)) (now (t .exit))) ⌝ }
+    ensures { λ r. ⌜ ((st : Option Model) → Stands st s (now (ws .entry)) (now (t .entry)) → Turned st s (now (ws .entry)) (now (t .entry)) (now (two .exit)) (now (rec .exit)) (now (pairs .entry)) (now (infos .entry)) (now (line .entry)) r (now (ws .exit)) (now (t .exit)) (now (pairs .exit)) (now (infos .exit)) (now (line .exit))) ⌝ }
 {
-    let head = next_record(rec);
-    if !head.go {
-        return After {
-            session: s,
-            go: false,
-        };
+    let came = frames::next_record(two, rec);
+    let piece = came.piece;
+    if !piece.go {
+        return stopped(s, piece);
     }
-    let n = head.size;
-    let r = session::respond(s, ws, t, &rec[..n], list, pairs, infos, line);
+    let n = came.size;
+    let r = session::respond(s, ws, t, &rec[..n], pairs, infos, line);
     let after = r.session;
+    let told = tell_all(full, line, r.size, infos);
     After {
         session: after,
-        go: tell_all(full, line, r.size, infos),
+        go: told.go,
+        told: told.size,
     }
 }
 
-fn empty() -> sampleinfo::Sample {
+fn empty_record() -> sampleinfo::Sample
+    ensures { λ r. ⌜ r ≡ emptySample ⌝ }
+{
     sampleinfo::Sample::empty()
 }
 
-// Any argument, as --full, asks for writers and sequence numbers.
-fn is_full() -> bool {
-    1 < os::arg_count()
+// ---- the arguments
+
+// The word --full.
+fn is_full(word: &[u8]) -> bool {
+    if word.len() != 6 {
+        return false;
+    }
+    let full = [45u8, 45, 102, 117, 108, 108];
+    let mut i = 0;
+    while i < 6 {
+        if word[i] != full[i] {
+            return false;
+        }
+        i += 1;
+    }
+    true
+}
+
+struct Asked {
+    known: bool,
+    full: bool,
+}
+
+// Nothing, or --full alone.
+fn asked() -> Asked {
+    let count = os::arg_count();
+    if count < 2 {
+        return Asked {
+            known: true,
+            full: false,
+        };
+    }
+    let mut word = [0u8; 16];
+    let n = os::arg(1, &mut word);
+    let full = is_full(&word[..n]);
+    Asked {
+        known: full && count == 2,
+        full: full,
+    }
+}
+
+fn usage() {
+    io::write_all(2, b"usage: session_main [--full]\n");
 }
 
 fn main() {
-    let full = is_full();
-    if !version_is_known() {
-        cut_off();
+    let ask = asked();
+    if !ask.known {
+        usage();
         return;
     }
-    let e = empty();
-    let mut t = [e; 256];
+    let mut one = [0u8; 1];
+    let version = frames::next_version(&mut one);
+    if !version.go {
+        over(version);
+        return;
+    }
+    let empty = empty_record();
+    let mut t = [empty; 256];
     let mut ws = [0u64; 928];
+    let mut two = [0u8; 2];
     let mut rec = [0u8; 65535];
-    let mut list = [0u64; 8190];
     let mut pairs = [0u64; 512];
     let mut infos = [0u64; 6912];
     let mut line = [0u8; 66048];
@@ -228,12 +256,12 @@ fn main() {
             s,
             &mut ws,
             &mut t,
+            &mut two,
             &mut rec,
-            &mut list,
             &mut pairs,
             &mut infos,
             &mut line,
-            full,
+            ask.full,
         );
         s = r.session;
         if !r.go {
