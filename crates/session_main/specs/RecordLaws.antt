@@ -1,10 +1,11 @@
 -- A turn of the program: which record it answered, and with what; and that something stands in memory before each record and after it.
 use mathlib.Core.Path.{_≡_, refl, sym, ap, _∙_}
-use mathlib.Core.Bool.{true, false, true≢false}
+use mathlib.Core.Bool.{true, false, not, true≢false}
 use mathlib.Core.Option.{Option, some, none}
 use mathlib.Core.List.{List}
 use Prim.Native.Nat.{ℕ, _≤_, _<_}
 use native.Mathlib.Omega.{arith}
+use borrow.Author.Tests.{not-false}
 use lib.ListN.{length, take, replicate, length-take, length-replicate}
 use Rattle.sampleinfo.specs.Samples.{emptySample}
 use Rattle.sampleinfo.specs.declared.Sample.{Sample}
@@ -16,6 +17,7 @@ use Rattle.session.specs.Stands.{Stands, Kept, Standing, Responds, Responded}
 use Rattle.replies.specs.declared.Session.{Session}
 use Rattle.replies.specs.Steps.{starting}
 use Rattle.session.specs.declared.Answered.{Answered}
+use Rattle.frames.specs.declared.Record.{Record}
 use Rattle.frames.specs.declared.Told.{Told}
 use Rattle.session_main.specs.declared.After.{After}
 
@@ -38,10 +40,13 @@ pub turn-stopped : (s : Session) (ws : List ℕ) (t : List Sample) (two rec ps i
     → (st : Option Model) → Stands st s ws t → Turned st s ws t two rec ps is was r ws t ps is was
 turn-stopped s ws t two rec ps is was r e st l = ended e refl refl refl refl refl
 
-pub turn-answered : (s : Session) (ws after : List ℕ) (t then : List Sample) (two rec ps is was qs js line : List ℕ) (n : ℕ) (r : Answered) (x : Told) → (n ≤ length rec) × (n < 65536) → n ≡ numberAt 2 two 0
-    → Responded (take n rec) s ws t ps is was r after then qs js line → (r .size ≤ length line → x .size ≡ r .size)
+pub turn-answered : (s : Session) (ws after : List ℕ) (t then : List Sample) (two rec ps is was qs js line : List ℕ) (came : Record) (r : Answered) (x : Told)
+    → (came .size ≤ length rec) × (came .size < 65536) → (came .piece .go ≡ true → came .size ≡ numberAt 2 two 0) → not (came .piece .go) ≡ false
+    → Responded (take (came .size) rec) s ws t ps is was r after then qs js line → (r .size ≤ length line → x .size ≡ r .size)
     → (st : Option Model) → Stands st s ws t → Turned st s ws t two rec ps is was (record { session = r .session; go = x .go; told = x .size }) after then qs js line
-turn-answered s ws after t then two rec ps is was qs js line n r x h e f k st l =
+turn-answered s ws after t then two rec ps is was qs js line came r x h says goes f k st l =
+    let n : ℕ = came .size in
+    let e : n ≡ numberAt 2 two 0 = says (not-false (came .piece .go) goes) in
     let y : Responds (turn st (take n rec)) s ws t ps is was r after then qs js line = f .stood st (omega (arith, h .1, length-take n rec)) l in
     let z : x .size ≡ r .size = k (omega (arith, y .lines .fits, y .lines .place, y .lines .long)) in
     answered (rw (← e) (h .0)) (rw (← e, z) y)
@@ -88,13 +93,13 @@ module _ (s : Session) (ws after : List ℕ) (t then : List Sample) (two rec ps 
       go (ended e a b c d l) = b ∙ start (sym (ap (λ (q : After). q .session .ready) e) ∙ z)
       go (answered a y) = by (turn (x .what) (take (numberAt 2 two 0) rec) .then) (y .stands) (y .kept)
 
-pub goes-on : (s : Session) (ws after : List ℕ) (t then : List Sample) (two rec two′ rec′ ps is was qs js line : List ℕ) (r : After)
-    → ((st : Option Model) → Stands st s ws t → Turned st s ws t two′ rec′ ps is was r after then qs js line) → Going s ws t two rec → length then ≡ length t → length two′ ≡ length two → length rec′ ≡ length rec
-    → Going (r .session) after then two′ rec′
-goes-on s ws after t then two rec two′ rec′ ps is was qs js line r f g e h k = record {
+pub goes-on : (s : Session) (ws after : List ℕ) (t then : List Sample) (two rec ps is was qs js line : List ℕ) (r : After)
+    → ((st : Option Model) → Stands st s ws t → Turned st s ws t two rec ps is was r after then qs js line)
+    → (two₀ rec₀ : List ℕ) → Going s ws t two₀ rec₀ → length then ≡ length t → length two ≡ length two₀ → length rec ≡ length rec₀ → Going (r .session) after then two rec
+goes-on s ws after t then two rec ps is was qs js line r f two₀ rec₀ g e h k = record {
   table = e ∙ g .table;
   head = h ∙ g .head;
   bytes = k ∙ g .bytes;
-  standing = still-standing s ws after t then two′ rec′ ps is was qs js line r f (g .standing);
-  start = still-fresh s ws after t then two′ rec′ ps is was qs js line r f (g .standing) (g .start);
+  standing = still-standing s ws after t then two rec ps is was qs js line r f (g .standing);
+  start = still-fresh s ws after t then two rec ps is was qs js line r f (g .standing) (g .start);
 }

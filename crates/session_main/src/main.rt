@@ -208,7 +208,7 @@ struct Asked {
 }
 
 // Nothing, or --full alone.
-fn asked() -> Asked {
+fn arguments() -> Asked {
     let count = os::arg_count();
     if count < 2 {
         return Asked {
@@ -230,7 +230,7 @@ fn usage() {
 }
 
 fn main() {
-    let ask = asked();
+    let ask = arguments();
     if !ask.known {
         usage();
         return;
