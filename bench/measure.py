@@ -5,6 +5,8 @@ Prints the least and the middle (median) CPU time of each, their ratios to the f
 `own` lines of those that have slots are equal in every run; if not, or if a program fails, it ends with status 1.
 With -c also the instructions that each executes, counted by callgrind (valgrind) in one run more.
 The programs take turns, so that a busy machine slows all of them alike. The last line says how busy the machine was.
+A program may be a command of several words, as "../tools/run bench_main", which runs on any processor; its time then counts the runner's shells and,
+where x86-64 is emulated, the emulator, so that there only the sums say something.
 """
 import os, re, subprocess, sys
 
@@ -13,7 +15,7 @@ LOAD = bytes.fromhex("01 0008 00 01 00000008 0020 000f4240 00000001")
 
 def once(program):
     """CPU seconds and output of one run."""
-    child = subprocess.Popen([program], stdin=subprocess.PIPE, stdout=subprocess.PIPE)
+    child = subprocess.Popen(program.split(), stdin=subprocess.PIPE, stdout=subprocess.PIPE)
     child.stdin.write(LOAD)
     child.stdin.close()
     out = child.stdout.read().decode()
@@ -26,7 +28,7 @@ def once(program):
 
 def instructions(program):
     """How many instructions one run executes."""
-    command = ["valgrind", "--tool=callgrind", "--callgrind-out-file=/dev/null", program]
+    command = ["valgrind", "--tool=callgrind", "--callgrind-out-file=/dev/null", *program.split()]
     said = subprocess.run(command, input=LOAD, capture_output=True).stderr.decode()
     return int(re.search(r"refs:\s+([\d,]+)", said).group(1).replace(",", ""))
 

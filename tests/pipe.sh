@@ -2,8 +2,7 @@
 # A station talks to the session program over a pipe: each answer comes before the next record is sent, and a closed output ends it quietly.
 set -u
 cd "$(dirname "$0")" || exit 1
-program=../target/bin/session_main
-[ -x "$program" ] || { echo "no $program: rt check session_main builds it"; exit 1; }
+[ -x ../target/bin/session_main ] || { echo "no target/bin/session_main: rt check session_main builds it"; exit 1; }
 
 # say HEX: these bytes to the program; hear TEXT: its next line, within five seconds
 say() { printf "$(sed 's/../\\x&/g' <<<"$1")" >&4; }
@@ -14,7 +13,7 @@ hear() {
 }
 
 # bash forgets a coprocess's own descriptors when it ends, so they are kept as 3 and 4
-coproc station { exec "$program"; }
+coproc station { exec ../tools/run session_main; }
 pid=$station_PID
 exec 3<&"${station[0]}" 4>&"${station[1]}" {station[1]}>&-
 say 01
@@ -34,7 +33,7 @@ hear "refused 1"
 wait "$pid" || { echo "ended with status $?"; exit 1; }
 
 # 100,000 records whose answers nobody reads: it ends by itself or by the pipe's own signal (141), and says nothing
-said=$({ { printf '\x01'; for _ in {1..100000}; do printf '\x00\x01\x09'; done; } | "$program" | head -n 1 >/dev/null; echo "status ${PIPESTATUS[1]}"; } 2>&1)
+said=$({ { printf '\x01'; for _ in {1..100000}; do printf '\x00\x01\x09'; done; } | ../tools/run session_main | head -n 1 >/dev/null; echo "status ${PIPESTATUS[1]}"; } 2>&1)
 case $said in
 "status 0" | "status 141") ;;
 *) echo "a closed output: $said"; exit 1 ;;

@@ -1,10 +1,10 @@
 #!/usr/bin/env bash
-# The session program on every stored session: what it prints, byte for byte, and that it ends with status 0.
+# The session program on every stored session: what it prints, byte for byte, and that it ends with status 0, which tools/run gives only where it
+# said nothing on standard error.
 # tests/sessions (made by tools/make_sessions.py, printouts by tools/reference.py) and tests/vectors (made by the Rust reference of oracle/).
 set -u
 cd "$(dirname "$0")" || exit 1
-program=../target/bin/session_main
-[ -x "$program" ] || { echo "no $program: rt check session_main builds it"; exit 1; }
+[ -x ../target/bin/session_main ] || { echo "no target/bin/session_main: rt check session_main builds it"; exit 1; }
 printed=$(mktemp)
 trap 'rm -f "$printed"' EXIT
 count=0
@@ -13,7 +13,7 @@ bad=0
 # one SESSION EXPECTED [ARGUMENT]
 one() {
   count=$((count + 1))
-  if ! "$program" ${3:+"$3"} <"$1" >"$printed"; then
+  if ! ../tools/run session_main ${3:+"$3"} <"$1" >"$printed"; then
     echo "$1: exit status"
     bad=$((bad + 1))
   elif ! cmp -s "$printed" "$2"; then

@@ -1,7 +1,7 @@
 #!/usr/bin/env python3
 """Runs a session program on every session of a folder and holds what it prints to the session's .out file.
 
-    run_sessions.py FOLDER PROGRAM [ARGUMENT ..]
+    run_sessions.py FOLDER PROGRAM [ARGUMENT ..]     as: run_sessions.py tests/sessions tools/run session_main
 """
 import pathlib
 import subprocess

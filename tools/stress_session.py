@@ -1,10 +1,13 @@
 #!/usr/bin/env python3
 """Holds a session program to what it must do on any input. By hand: the gate has the stored sessions.
 
-    stress_session.py long RECORDS PROGRAM     so many records in one run; says the time and the memory's peak
-    stress_session.py bytes INPUTS PROGRAM [SEED]  random inputs: it ends with status 0, in time, and prints lines of the grammar alone
+    stress_session.py long RECORDS [PROGRAM ..]              so many records in one run; says the time and the memory's peak
+    stress_session.py [--seed N] bytes INPUTS [PROGRAM ..]   random inputs: it ends with status 0, in time, and prints lines of the grammar alone
+
+PROGRAM is a command of one or more words; without it, tools/run session_main.
 """
-import os
+import argparse
+import pathlib
 import random
 import re
 import subprocess
@@ -74,17 +77,28 @@ def any_input(draw):
     return bytes(bytes_[: draw.choice([len(bytes_), draw.randrange(len(bytes_) + 1)])])
 
 
+def run(program, given):
+    """What the program prints, and its status. One that does not end is ended by a signal that the runner passes on, as SIGKILL is not."""
+    with subprocess.Popen(program, stdin=subprocess.PIPE, stdout=subprocess.PIPE) as process:
+        try:
+            printed, _ = process.communicate(given, timeout=20)
+        except subprocess.TimeoutExpired:
+            process.terminate()
+            raise
+    return printed, process.returncode
+
+
 def stress_bytes(inputs, program, seed):
     draw = random.Random(seed)
     lines = 0
     for at in range(inputs):
         given = any_input(draw)
-        run = subprocess.run(program, input=given, stdout=subprocess.PIPE, timeout=20, check=False)
-        fault = f"status {run.returncode}" if run.returncode else grammar_fault(run.stdout)
+        printed, status = run(program, given)
+        fault = f"status {status}" if status else grammar_fault(printed)
         if fault is not None:
             print(f"input {at} ({given.hex()}): {fault!r}")
             return 1
-        lines += run.stdout.count(b"\n")
+        lines += printed.count(b"\n")
     print(f"{inputs} inputs, seed {seed}, {lines} lines, all of the grammar; status 0 each time")
     return 0
 
@@ -99,21 +113,41 @@ def long_text(records):
             yield (f"within {n % 32} 3 3 7", f"read {n - 1}/{(n - 1) % 32}", f"next {n % 32}")[n // 5 % 3]
 
 
+def tree(pid):
+    """A process and those that it started."""
+    yield pid
+    try:
+        children = pathlib.Path(f"/proc/{pid}/task/{pid}/children").read_text(encoding="ascii").split()
+    except OSError:
+        return
+    for child in children:
+        yield from tree(int(child))
+
+
 def watch(process, peaks):
-    """The greatest memory that the process has had, in KiB, as long as it runs: of the whole time, since the kernel keeps the mark."""
+    """The greatest memory of what the process starts, in KiB by name, the runner's shells left out: of the whole time, though it is the last look
+    that counts, since the kernel keeps the mark. Where the program is emulated it is the emulator's."""
     while process.poll() is None:
-        try:
-            with open(f"/proc/{process.pid}/status", encoding="ascii") as status:
-                peaks += [int(line.split()[1]) for line in status if line.startswith("VmHWM")]
-        except OSError:
-            return
+        seen = {}
+        for pid in tree(process.pid):
+            try:
+                status = pathlib.Path(f"/proc/{pid}/status").read_text(encoding="ascii")
+            except OSError:
+                continue
+            told = dict(line.split(":", 1) for line in status.splitlines())
+            name = told["Name"].strip()
+            if name not in ("run", "sh") and "VmHWM" in told:
+                seen[name] = int(told["VmHWM"].split()[0])
+        if seen:
+            peaks.clear()
+            peaks.update(seen)
         time.sleep(0.005)
 
 
 def stress_long(records, program):
     given = session_text.to_bytes("\n".join(long_text(records)))
     start = time.monotonic()
-    peaks = []
+    peaks = {}
     with subprocess.Popen(program, stdin=subprocess.PIPE, stdout=subprocess.PIPE) as process:
         watcher = threading.Thread(target=watch, args=(process, peaks))
         watcher.start()
@@ -122,14 +156,23 @@ def stress_long(records, program):
     took = time.monotonic() - start
     fault = f"status {process.returncode}" if process.returncode else grammar_fault(printed)
     refused = printed.count(b"refused")
-    print(f"{records} records, {len(given)} bytes, {printed.count(10)} lines, {refused} refused, {took:.1f} s, peak {max(peaks, default=0)} KiB; fault {fault}")
+    peak = ", ".join(f"peak {most} KiB of {name}" for name, most in peaks.items())
+    print(f"{records} records, {len(given)} bytes, {printed.count(10)} lines, {refused} refused, {took:.1f} s, {peak or 'no peak'}; fault {fault}")
     return 1 if fault or refused else 0
 
 
+def main():
+    parser = argparse.ArgumentParser(description=__doc__, formatter_class=argparse.RawDescriptionHelpFormatter)
+    parser.add_argument("--seed", type=int, default=1)
+    parser.add_argument("kind", choices=["long", "bytes"])
+    parser.add_argument("count", type=int)
+    parser.add_argument("program", nargs=argparse.REMAINDER)
+    given = parser.parse_args()
+    program = given.program or [str(pathlib.Path(__file__).with_name("run")), "session_main"]
+    if given.kind == "long":
+        return stress_long(given.count, program)
+    return stress_bytes(given.count, program, given.seed)
+
+
 if __name__ == "__main__":
-    if len(sys.argv) < 4 or sys.argv[1] not in ("long", "bytes"):
-        sys.exit(__doc__)
-    program = [os.path.abspath(sys.argv[3])]
-    if sys.argv[1] == "long":
-        sys.exit(stress_long(int(sys.argv[2]), program))
-    sys.exit(stress_bytes(int(sys.argv[2]), program, int((sys.argv + ["1"])[4])))
+    sys.exit(main())

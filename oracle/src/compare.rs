@@ -1,10 +1,10 @@
 //! One session on two sides at once, answer by answer.
 
-use std::{collections::BTreeMap, io, path::Path};
+use std::{collections::BTreeMap, io};
 
 use crate::{
     answer::Answer,
-    external::{first_difference, run, talk},
+    external::{first_difference, run, talk, Program},
     generate::Step,
     judge::{Judge, Outside},
     reference::Reference,
@@ -149,11 +149,12 @@ pub fn expected(bytes: &[u8]) -> String {
 }
 
 /// Runs a program on the session and compares every line with the reference, everywhere.
-pub fn with_program(program: &Path, bytes: &[u8], tally: &mut Tally) -> io::Result<()> {
+pub fn with_program(program: &Program, bytes: &[u8], tally: &mut Tally) -> io::Result<()> {
     let expected = expected(bytes);
     let got = run(program, bytes)?;
     tally.sessions += 1;
-    if let Some((line, ours, theirs)) = first_difference(&expected, &got) {
+    tally.differences.extend(got.fault);
+    if let Some((line, ours, theirs)) = first_difference(&expected, &got.text) {
         let hex: String = bytes.iter().map(|b| format!("{b:02x}")).collect();
         let text =
             format!("line {line}\n  reference: {ours}\n  program:   {theirs}\n  session:   {hex}");
@@ -164,7 +165,7 @@ pub fn with_program(program: &Path, bytes: &[u8], tally: &mut Tally) -> io::Resu
 }
 
 /// The same over a pipe: a record goes out only when the one before is answered ("so that a station can talk to the program").
-pub fn over_a_pipe(program: &Path, records: &[Record], tally: &mut Tally) -> io::Result<()> {
+pub fn over_a_pipe(program: &Program, records: &[Record], tally: &mut Tally) -> io::Result<()> {
     let mut reference = Reference::default();
     let mut parts = Vec::new();
     for (n, record) in records.iter().enumerate() {

@@ -1,11 +1,11 @@
 //! docs/src and a program on one stream of sessions, with nothing of ours between them but the printing: every line that the Rust can
 //! speak to, up to the first record outside the common ground.
 
-use std::{io, path::Path};
+use std::io;
 
 use crate::{
     compare::Tally,
-    external::{first_difference, run},
+    external::{first_difference, run, Program},
     judge::Judge,
     session::{encode, Record},
     topic,
@@ -42,7 +42,7 @@ fn spoken(records: &[Record], sources: bool) -> Spoken {
 }
 
 pub fn rust_and_program(
-    program: &Path,
+    program: &Program,
     records: &[Record],
     sources: bool,
     tally: &mut Tally,
@@ -56,13 +56,14 @@ pub fn rust_and_program(
         Some(why) => *tally.left.entry(why).or_default() += 1,
         None => tally.never_left += 1,
     }
-    tally.differences.extend(difference(&rust.text, &got));
+    tally.differences.extend(got.fault);
+    tally.differences.extend(difference(&rust.text, &got.text));
     Ok(())
 }
 
 /// The same for the topic cache.
 pub fn rust_and_topic_program(
-    program: &Path,
+    program: &Program,
     calls: &[topic::Call],
     tally: &mut topic::compare::Tally,
 ) -> io::Result<()> {
@@ -77,7 +78,10 @@ pub fn rust_and_topic_program(
     tally.replies += spoken.len() as u64;
     tally.lines += topic::compare::count_lines(&spoken);
     tally.never_left += u64::from(spoken.len() == calls.len());
-    tally.differences.extend(difference(&spoken.concat(), &got));
+    tally.differences.extend(got.fault);
+    tally
+        .differences
+        .extend(difference(&spoken.concat(), &got.text));
     Ok(())
 }
 

@@ -2,18 +2,50 @@
 
 use std::{
     io::{self, BufRead, BufReader, Read, Write},
-    path::Path,
-    process::{Command, Stdio},
+    process::{Child, Command, ExitStatus, Stdio},
     sync::mpsc,
     thread,
     time::Duration,
 };
 
-pub fn run(program: &Path, input: &[u8]) -> io::Result<String> {
-    let mut child = Command::new(program)
-        .stdin(Stdio::piped())
-        .stdout(Stdio::piped())
-        .spawn()?;
+/// A command: a program and its arguments, as `../tools/run session_main`.
+pub struct Program {
+    name: String,
+    arguments: Vec<String>,
+}
+
+impl Program {
+    /// The words are parted by blanks, so that none of them holds one. Nothing where there is no word.
+    pub fn of(text: &str) -> Option<Self> {
+        let mut words = text.split_whitespace().map(str::to_string);
+        Some(Self {
+            name: words.next()?,
+            arguments: words.collect(),
+        })
+    }
+
+    fn start(&self) -> io::Result<Child> {
+        Command::new(&self.name)
+            .args(&self.arguments)
+            .stdin(Stdio::piped())
+            .stdout(Stdio::piped())
+            .spawn()
+            .map_err(|e| io::Error::new(e.kind(), format!("{}: {e}", self.name)))
+    }
+}
+
+/// What a program printed, and how it failed: by its status, which is 1 by `tools/run` if it said anything on standard error.
+pub struct Ran {
+    pub text: String,
+    pub fault: Option<String>,
+}
+
+fn fault_of(status: ExitStatus) -> Option<String> {
+    (!status.success()).then(|| format!("the program ended with {status}"))
+}
+
+pub fn run(program: &Program, input: &[u8]) -> io::Result<Ran> {
+    let mut child = program.start()?;
     let (Some(mut stdin), Some(mut stdout)) = (child.stdin.take(), child.stdout.take()) else {
         return Err(io::Error::other("no pipes"));
     };
@@ -27,20 +59,25 @@ pub fn run(program: &Path, input: &[u8]) -> io::Result<String> {
         stdout.read_to_end(&mut out)
     })?;
     let status = child.wait()?;
-    let mut text = String::from_utf8_lossy(&out).into_owned();
-    if !status.success() {
-        text.push_str(&format!("(ended with {status})\n"));
-    }
-    Ok(text)
+    Ok(Ran {
+        text: String::from_utf8_lossy(&out).into_owned(),
+        fault: fault_of(status),
+    })
+}
+
+/// Ends a program by the signal TERM, which `tools/run` passes on; `Child::kill` would end the runner alone.
+fn end(child: &Child) -> io::Result<()> {
+    let number = child.id().to_string();
+    Command::new("sh")
+        .args(["-c", "kill \"$0\"", &number])
+        .status()?;
+    Ok(())
 }
 
 /// Talks to a program over a pipe: each part is sent only when the answer to the one before has come. The parts come with the
 /// lines that must answer them. Answers the first part that was answered otherwise, or not within five seconds.
-pub fn talk(program: &Path, parts: &[(Vec<u8>, String)]) -> io::Result<Option<String>> {
-    let mut child = Command::new(program)
-        .stdin(Stdio::piped())
-        .stdout(Stdio::piped())
-        .spawn()?;
+pub fn talk(program: &Program, parts: &[(Vec<u8>, String)]) -> io::Result<Option<String>> {
+    let mut child = program.start()?;
     let (Some(mut stdin), Some(stdout)) = (child.stdin.take(), child.stdout.take()) else {
         return Err(io::Error::other("no pipes"));
     };
@@ -68,11 +105,11 @@ pub fn talk(program: &Path, parts: &[(Vec<u8>, String)]) -> io::Result<Option<St
     }
     drop(stdin);
     if fault.is_some() {
-        child.kill()?;
+        end(&child)?;
     }
-    child.wait()?;
+    let status = child.wait()?;
     let _ = reader.join();
-    Ok(fault)
+    Ok(fault.or(fault_of(status)))
 }
 
 /// The first line that differs, counted from 1, with both sides.

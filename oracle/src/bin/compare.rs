@@ -1,6 +1,7 @@
-//! `compare KIND [--seed N] [--sessions N] [--length N] [--every N] [--program PATH]`
+//! `compare KIND [--seed N] [--sessions N] [--length N] [--every N] [--program "WORD .."]`
 //!    [--profile NAME] [--folder PATH]
 //!
+//! A program is a command, its words parted by blanks: `"../tools/run session_main"`.
 //! Without --program: docs/src against the reference. With it: that program against the reference, every line, everywhere.
 //! KIND: random (each profile in turn), short (all words up to the length), damage (broken bytes, programs only), sensitivity
 //! (in how many sessions each wrong variant of the reference is seen), topic (the topic cache), corners (sessions by hand), pipe (those,
@@ -14,6 +15,7 @@ use std::{env, fs, io, path::PathBuf, process::ExitCode, time::Instant};
 use oracle::{
     compare::{expected, over_a_pipe, with_program, with_the_rust, Tally},
     direct::{rust_and_program, rust_and_topic_program},
+    external::Program,
     generate::{
         bytes, corners::corners, damage::damage, profile::PROFILES, random, records, short, Step,
     },
@@ -28,7 +30,7 @@ struct Options {
     sessions: u64,
     length: u32,
     every: u64,
-    program: Option<PathBuf>,
+    program: Option<Program>,
     folder: PathBuf,
     profile: String,
 }
@@ -54,7 +56,7 @@ fn options() -> Option<Options> {
             "--every" => o.every = value.parse().ok()?,
             "--profile" => o.profile = value,
             "--folder" => o.folder = value.into(),
-            "--program" => o.program = Some(value.into()),
+            "--program" => o.program = Some(Program::of(&value)?),
             _ => return None,
         }
     }
@@ -63,7 +65,7 @@ fn options() -> Option<Options> {
 
 fn main() -> io::Result<ExitCode> {
     let Some(o) = options() else {
-        eprintln!("compare random|short|damage|sensitivity|topic|topic-damage|topic-pipe|corners|pipe|judge|judge-full|judge-short|judge-corners|judge-topic|write [--seed N] [--sessions N] [--length N] [--every N] [--program PATH] [--folder PATH] [--profile NAME]");
+        eprintln!("compare random|short|damage|sensitivity|topic|topic-damage|topic-pipe|corners|pipe|judge|judge-full|judge-short|judge-corners|judge-topic|write [--seed N] [--sessions N] [--length N] [--every N] [--program \"WORD ..\"] [--folder PATH] [--profile NAME]");
         return Ok(ExitCode::from(2));
     };
     if needs_program(&o.kind) && o.program.is_none() {

@@ -1,6 +1,6 @@
 //! One run of calls on docs/src and on the reference.
 
-use std::{io, path::Path};
+use std::io;
 
 use super::{
     format::{decode, encode, lines},
@@ -9,7 +9,7 @@ use super::{
     wrong::Wrong,
     Call, Reply,
 };
-use crate::external::{first_difference, run, talk};
+use crate::external::{first_difference, run, talk, Program};
 
 #[derive(Debug, Default)]
 pub struct Tally {
@@ -103,13 +103,14 @@ pub fn count_lines(answers: &[String]) -> u64 {
 }
 
 /// A program against the reference, every line, everywhere; the bytes may be damaged.
-pub fn with_program(program: &Path, bytes: &[u8], tally: &mut Tally) -> io::Result<()> {
+pub fn with_program(program: &Program, bytes: &[u8], tally: &mut Tally) -> io::Result<()> {
     let expected = expected(bytes);
     let got = run(program, bytes)?;
     tally.runs += 1;
     tally.replies += expected.len() as u64;
     tally.lines += count_lines(&expected);
-    if let Some((line, ours, theirs)) = first_difference(&expected.concat(), &got) {
+    tally.differences.extend(got.fault);
+    if let Some((line, ours, theirs)) = first_difference(&expected.concat(), &got.text) {
         tally.differences.push(format!(
             "line {line}\n  reference: {ours}\n  program:   {theirs}"
         ));
@@ -118,7 +119,7 @@ pub fn with_program(program: &Path, bytes: &[u8], tally: &mut Tally) -> io::Resu
 }
 
 /// The same over a pipe: a record goes out only when the one before is answered.
-pub fn over_a_pipe(program: &Path, calls: &[Call], tally: &mut Tally) -> io::Result<()> {
+pub fn over_a_pipe(program: &Program, calls: &[Call], tally: &mut Tally) -> io::Result<()> {
     let answers = expected(&encode(calls));
     tally.lines += count_lines(&answers);
     let mut parts = Vec::new();
