@@ -1,10 +1,11 @@
 -- Demand 3, proved: for any set-up within its bounds and any calls after it.
-use mathlib.Core.Path.{_≡_, _∙_, ap}
+use mathlib.Core.Path.{_≡_, refl, _∙_, ap, subst}
 use mathlib.Core.Bool.{true}
 use mathlib.Core.List.{List}
 use mathlib.Core.Option.{Option}
 use Prim.Native.Nat.{ℕ}
-use Rattle.model.specs.Model.{Model, SetUp, Call, within, keepOf, fresh}
+use Rattle.model.specs.Model.{Model, SetUp, Call, setUp, ok, within, keepOf, fresh, step}
+use Rattle.model.specs.Bounds.{Bounds, accepted}
 use Rattle.model.specs.Story.{run, trace, entriesOf, holds}
 use Rattle.model.specs.Demand3.{Demand3}
 use Rattle.model.specs.PairLaws.{among-in}
@@ -45,7 +46,7 @@ demand3 u e cs = record {
   looks = looks-step now (λ n. held-once d i n cs) (one-to-a-key now valid);
   unknown-empty = unknown-empty now;
   nexts = nexts-step now;
-  lists = lists-step now;
+  lists = lists-step now (λ n. held-once d i n cs);
   names-is = among-in;
   sets = set-up-step now;
 }
@@ -61,3 +62,10 @@ demand3 u e cs = record {
 
     valid : Valid now
     valid = all-valid u e cs
+
+-- the same from the set-up on, whatever stood before it: within document 01's bounds it is accepted, with the keep count that they give
+pub set-up-demand3 : (m : Model) (u : SetUp) (d : Option ℕ) → Bounds u d → (cs : List Call)
+    → ((step m (setUp u)) .answer ≡ ok) × Demand3 d (run ((step m (setUp u)) .then) cs) (trace ((step m (setUp u)) .then) cs)
+set-up-demand3 m u d b cs = let a = accepted u d .1 b in
+    rw (set-up-step m u .makes-fresh d b)
+    (refl, subst (λ k. Demand3 k (run (fresh k (u .instances)) cs) (trace (fresh k (u .instances)) cs)) (a .1) (demand3 u (a .0) cs))
