@@ -11,7 +11,7 @@ use Rattle.model.specs.Demand3.{Demand3}
 use Rattle.model.specs.PairLaws.{among-in}
 use Rattle.model.proofs.Held.{holds-last, keep-is-told, length-last}
 use Rattle.model.proofs.Keys.{all-keys-rise, story-keys-rise, last-is-last, live-keys-top}
-use Rattle.model.proofs.Refusals.{refused-same, refused-exactly, refused-iff, never-5, set-up-step}
+use Rattle.model.proofs.Refusals.{formed-is, refused-same, refused-exactly, refused-iff, never-5, set-up-step}
 use Rattle.model.proofs.Names.{held-once, known-told}
 use Rattle.model.proofs.Slots.{Valid, all-valid, in-bounds, within-room, at-most, at-most-256, one-to-a-slot, slots-below-256, one-to-a-key}
 use Rattle.model.proofs.Adds.{adds-step, leaves-step}
@@ -29,6 +29,7 @@ demand3 u e cs = record {
   own-keys = λ n. story-keys-rise d i n cs;
   last-key = last-is-last d i cs;
   live-keys = λ n. live-keys-top d i n cs;
+  well-formed = formed-is;
   exactly = refused-exactly now;
   refused-iff = refused-iff now;
   never-5 = never-5 now;

@@ -6,7 +6,7 @@ use mathlib.Core.List.{List, [], _∷_, _++_, append-nil}
 use mathlib.Core.Option.{Option, some, none}
 use Prim.Native.Nat.{ℕ, zero, suc, _+_, _-_, _*_, _^_, _/_, _%_, _≤_, _<_, max, min}
 use native.Mathlib.Omega.{arith}
-use borrow.Author.Tests.{ltb-true, leb-true, leb-false, le-leb, lt-leb, eqb-true, eq-eqb}
+use borrow.Author.Tests.{ltb-true, leb-true, leb-false, le-leb, lt-leb, lt-ltb, eqb-true, eq-eqb}
 use lib.ListN.{length, drop, length-drop, length-append}
 use lib.Dec.{ltb, leb, eqb}
 use Rattle.keys.specs.Keys.{keyOf, Later, issuedNumber}
@@ -16,9 +16,10 @@ use Rattle.keys.specs.declared.Last.the-variants as last
 use Rattle.keys.specs.declared.Issued.{Issued}
 use Rattle.keys.specs.declared.Issued.the-variants as issued
 use Rattle.model.specs.Topic.{Entry, Limits, Topic, Change, Call, update, add, removeBefore, range, refused, ok, key, heldAlready, found, Step, places, inBounds, depthFits, limitsFit, raisedTo, raised, deeper, wider, mayFor, countBelow, removal, removedBefore, collected, collectEvery, collects, collectedFor, holdsPair, sameBytes, entryOf, refuse, issuing, seqFits, within, fresh, step}
+use Rattle.model.specs.Bounds.{and-is, le-is}
 use Rattle.model.specs.TopicPromises.{run, keyIn, issuedBy, Rises, keysOf, isPair, times, FromTheOldest, NoLaterKey}
 use Rattle.model.specs.TopicPromises.{AtLeast, Higher, LimitBounds, Raised, Greater}
-use Rattle.model.specs.TopicPromises.{MultipleOf, Collects, small, medium, large, full, First, collecting, as-it-is, heldIn}
+use Rattle.model.specs.TopicPromises.{InRange, MultipleOf, Collects, small, medium, large, full, First, collecting, as-it-is, heldIn}
 use Rattle.model.specs.TopicPromises.{AddAnswers, UpdateAnswers, RangeAnswers, Leaves, TopicPromises}
 
 split {ℓ} : {C : Type ℓ} (b : Bool) → (b ≡ true → C) → (b ≡ false → C) → C
@@ -169,10 +170,7 @@ and-right false b e = let z : _≡_ {A = ℕ} 0 1 = cc in absurd (omega arith)
 -- ---- limits within their bounds, and raised
 
 in-bounds : (n : ℕ) → (inBounds n ≡ true) ↔ ((1 ≤ n) × (n ≤ 256))
-in-bounds n = (
-  λ e. (leb-true 1 n (and-left (leb 1 n) (leb n 256) e), leb-true n 256 (and-right (leb 1 n) (leb n 256) e)),
-  λ h. rw (le-leb 1 n (h .0), le-leb n 256 (h .1)),
-)
+in-bounds n = and-is (le-is 1 n) (le-is n 256)
 
 depth-fits : (o : Option ℕ) → (depthFits o ≡ true) ↔ ((d : ℕ) → o ≡ some d → (1 ≤ d) × (d ≤ 256))
 depth-fits none = (λ e d q. let z : _≡_ {A = ℕ} 0 1 = cc in absurd (omega arith), λ h. refl)
@@ -180,13 +178,7 @@ depth-fits (some n) = (λ e d q. let p : n ≡ d = cc in in-bounds d .0 (rw p at
 
 limits-fit : (l : Limits) → (limitsFit l ≡ true) ↔ LimitBounds l
 unfolding limitsFit
-limits-fit l = (
-  λ e. record {
-    most = in-bounds (l .most) .0 (and-left (inBounds (l .most)) (depthFits (l .depth)) e);
-    depth = depth-fits (l .depth) .0 (and-right (inBounds (l .most)) (depthFits (l .depth)) e);
-  },
-  λ h. rw (in-bounds (l .most) .1 (h .most), depth-fits (l .depth) .1 (h .depth)),
-)
+limits-fit l = let x = and-is (in-bounds (l .most)) (depth-fits (l .depth)) in (λ e. record { most = x .0 e .0; depth = x .0 e .1 }, λ h. x .1 (h .most, h .depth))
 
 raised-is : (l : Limits) → Raised l (raised l)
 raised-is l = record {
@@ -199,7 +191,7 @@ raised-is l = record {
 -- ---- places
 
 bounded : (n : ℕ) → inBounds n ≡ true → n ≤ 256
-bounded n e = leb-true n 256 (and-right (leb 1 n) (leb n 256) e)
+bounded n e = in-bounds n .0 e .1
 
 raised-low : (l : Limits) → limitsFit l ≡ true → raised l .most ≤ 256
 unfolding limitsFit
@@ -484,18 +476,22 @@ refused-later c time e = refused-none (c .last) time (ap issuedNumber e)
 later-refused : (c : Topic) (time k : ℕ) → time < 2 ^ 64 → NoLaterKey c → keyOf (c .last) time ≡ issued.Key k → ⊥
 later-refused c time k h n e = let z : _≡_ {A = ℕ} 0 6 = ap issuedNumber (sym e) ∙ none-refused (c .last) time h n in omega arith
 
+in-range : (s : ℕ) → (seqFits s ≡ true) ↔ InRange s
+unfolding seqFits
+in-range s = and-is (le-is 1 s) (ltb-true s (2 ^ 63), lt-ltb s (2 ^ 63))
+
 answers : (c first : Topic) (x : Change) {y : Step} → Done c (add x) y → first ≡ left c (dropsIn c x) → x .time < 2 ^ 64 → AddAnswers c first x y
 answers c first x (by-1 x' e) f h = record {
-  by-1 = (λ q. e, λ q. refl);
-  again = (λ q. let z : _≡_ {A = ℕ} 0 1 = cc in absurd (omega arith), λ q. no-bool (seqFits (x .seq)) (q .0) e);
+  by-1 = (λ q h. no-bool (seqFits (x .seq)) (in-range (x .seq) .1 h) e, λ q. refl);
+  again = (λ q. let z : _≡_ {A = ℕ} 0 1 = cc in absurd (omega arith), λ q. no-bool (seqFits (x .seq)) (in-range (x .seq) .1 (q .0)) e);
   stands = λ q. let z : _≡_ {A = ℕ} 0 1 = cc in absurd (omega arith);
-  by-6 = (λ q. let z : _≡_ {A = ℕ} 1 6 = cc in absurd (omega arith), λ q. no-bool (seqFits (x .seq)) (q .0) e);
+  by-6 = (λ q. let z : _≡_ {A = ℕ} 1 6 = cc in absurd (omega arith), λ q. no-bool (seqFits (x .seq)) (in-range (x .seq) .1 (q .0)) e);
   by-no-other = λ n q d. let z : n ≡ 1 = cc in absurd (d z);
   accepted = λ k q. let z : _≡_ {A = ℕ} 0 1 = cc in absurd (omega arith);
 }
 answers c first x (again x' e i) f h = record {
-  by-1 = (λ q. let z : _≡_ {A = ℕ} 0 1 = cc in absurd (omega arith), λ q. no-bool (seqFits (x .seq)) e q);
-  again = (λ q. (e, held), λ q. refl);
+  by-1 = (λ q. let z : _≡_ {A = ℕ} 0 1 = cc in absurd (omega arith), λ q. absurd (q (in-range (x .seq) .0 e)));
+  again = (λ q. (in-range (x .seq) .0 e, held), λ q. refl);
   stands = λ q. sym f;
   by-6 = (λ q. let z : _≡_ {A = ℕ} 0 1 = cc in absurd (omega arith), λ q. no-bool (heldIn first x) held (q .1));
   by-no-other = λ n q d. let z : _≡_ {A = ℕ} 0 1 = cc in absurd (omega arith);
@@ -505,10 +501,10 @@ answers c first x (again x' e i) f h = record {
     held : heldIn first x ≡ true
     held = ap (λ (t : Topic). heldIn t x) f ∙ i
 answers c first x (by-6 x' e i j) f h = record {
-  by-1 = (λ q. let z : _≡_ {A = ℕ} 6 1 = cc in absurd (omega arith), λ q. no-bool (seqFits (x .seq)) e q);
+  by-1 = (λ q. let z : _≡_ {A = ℕ} 6 1 = cc in absurd (omega arith), λ q. absurd (q (in-range (x .seq) .0 e)));
   again = (λ q. let z : _≡_ {A = ℕ} 0 1 = cc in absurd (omega arith), λ q. no-bool (heldIn first x) (q .1) free);
   stands = λ q. let z : _≡_ {A = ℕ} 0 1 = cc in absurd (omega arith);
-  by-6 = (λ q. (e, free, refused-later c (x .time) j), λ q. refl);
+  by-6 = (λ q. (in-range (x .seq) .0 e, free, refused-later c (x .time) j), λ q. refl);
   by-no-other = λ n q d. let z : n ≡ 6 = cc in z;
   accepted = λ k q. let z : _≡_ {A = ℕ} 0 1 = cc in absurd (omega arith);
 }
@@ -516,7 +512,7 @@ answers c first x (by-6 x' e i j) f h = record {
     free : heldIn first x ≡ false
     free = ap (λ (t : Topic). heldIn t x) f ∙ i
 answers c first x (accepts x' n e i j) f h = record {
-  by-1 = (λ q. let z : _≡_ {A = ℕ} 0 1 = cc in absurd (omega arith), λ q. no-bool (seqFits (x .seq)) e q);
+  by-1 = (λ q. let z : _≡_ {A = ℕ} 0 1 = cc in absurd (omega arith), λ q. absurd (q (in-range (x .seq) .0 e)));
   again = (λ q. let z : _≡_ {A = ℕ} 0 1 = cc in absurd (omega arith), λ q. no-bool (heldIn first x) (q .1) free);
   stands = λ q. let z : _≡_ {A = ℕ} 0 1 = cc in absurd (omega arith);
   by-6 = (λ q. let z : _≡_ {A = ℕ} 0 1 = cc in absurd (omega arith), λ q. absurd (later-refused c (x .time) n h (q .2) j));

@@ -30,10 +30,10 @@ pub record Bounds (u : SetUp) (d : Option ℕ) : Type 0 where
 
 -- ---- a test and what it tests
 module _ {a b : Bool} {P Q : Type 0} (p : (a ≡ true) ↔ P) (q : (b ≡ true) ↔ Q) where
-  and-is : (a && b ≡ true) ↔ (P × Q)
+  pub and-is : (a && b ≡ true) ↔ (P × Q)
   and-is = let i = and-eq-true-iff a b in (λ e. (p .0 (i .0 e .0), q .0 (i .0 e .1)), λ e. i .1 (p .1 (e .0), q .1 (e .1)))
 
-  or-is : (a || b ≡ true) ↔ (P ⊎ Q)
+  pub or-is : (a || b ≡ true) ↔ (P ⊎ Q)
   or-is = (λ e. or-in a refl e, out)
     where
       or-in : (x : Bool) → a ≡ x → x || b ≡ true → P ⊎ Q
@@ -48,10 +48,10 @@ module _ {a b : Bool} {P Q : Type 0} (p : (a ≡ true) ↔ P) (q : (b ≡ true) 
       out (inl x) = rw (p .1 x)
       out (inr y) = rw (q .1 y) (absorb a)
 
-le-is : (m n : ℕ) → (leb m n ≡ true) ↔ (m ≤ n)
+pub le-is : (m n : ℕ) → (leb m n ≡ true) ↔ (m ≤ n)
 le-is m n = (leb-true m n, le-leb m n)
 
-eq-is : (m n : ℕ) → (eqb m n ≡ true) ↔ (m ≡ n)
+pub eq-is : (m n : ℕ) → (eqb m n ≡ true) ↔ (m ≡ n)
 eq-is m n = (eqb-true m n, eq-eqb m n)
 
 -- the keep field of modes 1 and 2

@@ -62,6 +62,11 @@ abbrev pub hasKey : ℕ → Live → Bool
 hasKey k s = eqb (s .key) k
 
 -- ---- why an add is refused
+-- not 1: "kind not 1 or 2, sequence number out of range"; "sequence number 1 to 2^63-1"
+pub record WellFormed (a : Arrival) : Type 0 where
+  pub kind : (a .kind ≡ 1) ⊎ (a .kind ≡ 2)
+  pub seq : (1 ≤ a .seq) × (a .seq < 2 ^ 63)
+
 -- 6: "no key later than the last issued exists"
 abbrev pub NoLaterKey : Model → Type 0
 NoLaterKey m = (k : ℕ) → Later (m .last) k → 2 ^ 64 ≤ k
@@ -260,6 +265,7 @@ pub record Demand3 (d : Option ℕ) (now : Model) (seen : List Event) : Type 0 w
   pub last-key : now .last ≡ lastKey last.Never (allKeys seen)
   pub live-keys : (n : ℕ) → Every (λ s. AtMost (now .last) (s .key)) (liveAt n now)
   -- (c) an add is refused exactly as demanded, under a keep count never with 5
+  pub well-formed : (a : Arrival) → (wellFormed a ≡ true) ↔ WellFormed a
   pub exactly : (a : Arrival) → a .time < 2 ^ 64 → Exactly now a ((step now (add a)) .answer)
   pub refused-iff : (k : ℕ) → now .keep ≡ some k → (a : Arrival) → wellFormed a ≡ true → a .time < 2 ^ 64
       → ((r : ℕ) × ((step now (add a)) .answer ≡ refused r)) ↔ (NoLaterKey now ⊎ NoRoom now a ⊎ LastRebirth now a)

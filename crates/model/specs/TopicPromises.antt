@@ -11,7 +11,7 @@ use Rattle.keys.specs.Keys.{keyOf, Later}
 use Rattle.keys.specs.declared.Last.the-variants as last
 use Rattle.keys.specs.declared.Issued.the-variants as issued
 use Rattle.model.specs.Topic.{Entry, Limits, Topic, Change, Call, update, add, removeBefore, range}
-use Rattle.model.specs.Topic.{Answer, refused, ok, key, heldAlready, found, Step, step, fresh, places, limitsFit, defaults, seqFits}
+use Rattle.model.specs.Topic.{Answer, refused, ok, key, heldAlready, found, Step, step, fresh, places, limitsFit, defaults}
 use Rattle.model.specs.Topic.{sameBytes, holdsPair, entryOf, countBelow, removedBefore, collected, within}
 
 -- ---- words
@@ -101,6 +101,10 @@ pub record FromTheOldest (c : Topic) (x : Call) (y : Step) : Type 0 where
 abbrev pub NoLaterKey : Topic → Type 0
 NoLaterKey c = (k : ℕ) → k < 2 ^ 64 → Later (c .last) k → ⊥
 
+-- not 1: "sequence number 1 to 2^63-1"
+abbrev pub InRange : ℕ → Type 0
+InRange s = (1 ≤ s) × (s < 2 ^ 63)
+
 abbrev pub MultipleOf : ℕ → ℕ → Type 0
 MultipleOf k n = (j : ℕ) × (n ≡ k * j)
 
@@ -125,11 +129,11 @@ heldIn c x = holdsPair (x .writer) (x .seq) (c .entries)
 
 -- the answer to an add, of the cache `first` that it works on: 1 comes first; "Topic add: the held test, 6."
 pub record AddAnswers (c first : Topic) (x : Change) (y : Step) : Type 0 where
-  pub by-1 : (y .answer ≡ refused 1) ↔ (seqFits (x .seq) ≡ false)
+  pub by-1 : (y .answer ≡ refused 1) ↔ (¬ InRange (x .seq))
   -- "A held pair of writer and sequence number is then answered "held already"; the collection stands."
-  pub again : (y .answer ≡ heldAlready) ↔ ((seqFits (x .seq) ≡ true) × (heldIn first x ≡ true))
+  pub again : (y .answer ≡ heldAlready) ↔ (InRange (x .seq) × (heldIn first x ≡ true))
   pub stands : y .answer ≡ heldAlready → y .then ≡ first
-  pub by-6 : (y .answer ≡ refused 6) ↔ ((seqFits (x .seq) ≡ true) × (heldIn first x ≡ false) × NoLaterKey c)
+  pub by-6 : (y .answer ≡ refused 6) ↔ (InRange (x .seq) × (heldIn first x ≡ false) × NoLaterKey c)
   pub by-no-other : (n : ℕ) → y .answer ≡ refused n → (n ≡ 1 → ⊥) → n ≡ 6
   -- "Else the key rule above .., and the key is the answer"; the entry stands last
   pub accepted : (k : ℕ) → y .answer ≡ key k
