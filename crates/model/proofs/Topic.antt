@@ -541,6 +541,15 @@ kept d held n h = omega arith
 over-depth : (d most held below : ℕ) → d ≤ most → min d held ≤ leftOver (some d) most held below
 over-depth d most held below h = kept d held _ (no-more (held - most) (max (held - most) (held - d)) below (held - d) (omega arith) (omega arith))
 
+no-less : (m x below k : ℕ) → k ≤ x → min k below ≤ max m (min x below)
+no-less m x below k h = omega arith
+
+rest : (d held below n : ℕ) → min (held - d) below ≤ n → held - n ≤ max d (held - below)
+rest d held below n h = omega arith
+
+over-old : (d most held below : ℕ) → leftOver (some d) most held below ≤ max d (held - below)
+over-old d most held below = rest d held below _ (no-less (held - most) (max (held - most) (held - d)) below (held - d) (omega arith))
+
 over-all : (most held below : ℕ) → leftOver none most held below ≡ min most held
 over-all most held below = omega arith
 
@@ -560,6 +569,7 @@ left-by c t =
     record {
       within-most = rw e (over-most (c .limits .depth) most held below);
       keeps-depth = λ d q h. rw e (subst (λ (o : Option ℕ). min d held ≤ leftOver o most held below) (sym q) (over-depth d most held below h));
+      drops-old = λ d q. rw e (subst (λ (o : Option ℕ). leftOver o most held below ≤ max d (held - below)) (sym q) (over-old d most held below));
       keeps-all = λ q. e ∙ ap (λ (o : Option ℕ). leftOver o most held below) q ∙ over-all most held below;
       keeps-late = rw e (over-late (c .limits .depth) most held below);
     }

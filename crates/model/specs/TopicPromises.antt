@@ -4,7 +4,7 @@ use mathlib.Core.Logic.{_↔_, _⊎_}
 use mathlib.Core.Bool.{Bool, true, false, _&&_, cond}
 use mathlib.Core.List.{List, [], _∷_, _++_, map}
 use mathlib.Core.Option.{Option, some, none}
-use Prim.Native.Nat.{ℕ, _+_, _-_, _*_, _^_, _≤_, _<_, min}
+use Prim.Native.Nat.{ℕ, _+_, _-_, _*_, _^_, _≤_, _<_, max, min}
 use lib.ListN.{length, drop}
 use lib.Dec.{eqb}
 use Rattle.keys.specs.Keys.{keyOf, Later}
@@ -150,10 +150,12 @@ pub record RangeAnswers (c : Topic) (s t room : ℕ) (a : Answer) : Type 0 where
   pub by-9 : (a ≡ refused 9) ↔ (room < length (within s t (c .entries)))
   pub finds : length (within s t (c .entries)) ≤ room → a ≡ found (within s t (c .entries))
 
--- how many a removal before t leaves: no more than max_samples; with a depth, that many are kept; with KeepAll, no more go than must
+-- how many a removal before t leaves: no more than max_samples; with a depth, that many are kept, and past it none below t; with KeepAll, no more go
+-- than must
 pub record Leaves (c : Topic) (t : ℕ) (left : ℕ) : Type 0 where
   pub within-most : left ≤ c .limits .most
   pub keeps-depth : (d : ℕ) → c .limits .depth ≡ some d → d ≤ c .limits .most → min d (length (c .entries)) ≤ left
+  pub drops-old : (d : ℕ) → c .limits .depth ≡ some d → left ≤ max d (length (c .entries) - countBelow t (c .entries))
   pub keeps-all : c .limits .depth ≡ none → left ≡ min (c .limits .most) (length (c .entries))
   pub keeps-late : min (c .limits .most) (length (c .entries) - countBelow t (c .entries)) ≤ left
 
