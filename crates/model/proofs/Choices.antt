@@ -38,7 +38,7 @@ in-held [] i h = absurd h
 in-held (j ∷ is) i (inl e) = rw (eq-eqb (j .name) (i .name) (ap (λ (k : Instance). k .name) (sym e))) (omega arith)
 in-held (j ∷ is) i (inr h) = omega (arith, in-held is i h)
 
-in-found : (is : List Instance) → ((n : ℕ) → timesHeld n is ≤ 1) → (i : Instance) → In i is → find (i .name) is ≡ some i
+pub in-found : (is : List Instance) → ((n : ℕ) → timesHeld n is ≤ 1) → (i : Instance) → In i is → find (i .name) is ≡ some i
 unfolding timesHeld
 in-found [] o i h = absurd h
 in-found (j ∷ is) o i (inl e) = find-here (i .name) j is (eq-eqb (j .name) (i .name) (ap (λ (k : Instance). k .name) (sym e))) ∙ ap some (sym e)

@@ -7,6 +7,7 @@ pub mod Names
 pub mod Keys
 pub mod Adds
 pub mod Choices
+pub mod Infos
 pub mod Lists
 pub mod Demand3
 pub mod Topic

@@ -18,9 +18,10 @@ use Rattle.model.specs.Views.{greater, viewed}
 use Rattle.model.specs.PairLaws.{among-in, repeats-distinct}
 use Rattle.model.specs.Model.{Model, Instance, Live, Place, gone, held, Step, refused, infos, list, refuse, find, liveIn, keyed, named, present, asRead, isLive, allLive, fine, infoAt, infosOf, infosFor, touch, listedIn, shown, accessed, listed, access, accessing, step}
 use Rattle.model.specs.Story.{Every, mapO, livesOf, liveAt}
-use Rattle.model.specs.Demand3.{In, LivePair, Sound, names, takes, remains, Greatest, Viewed, Lists}
+use Rattle.model.specs.Demand3.{In, LivePair, Sound, names, takes, remains, Greatest, Viewed, AtPlace, Lists, timesHeld}
 use Rattle.model.proofs.Laws.{split, find-map, find-name}
 use Rattle.model.proofs.Refusals.{number, ill, both}
+use Rattle.model.proofs.Infos.{infos-shown}
 
 -- ---- a pair is live: its instance has a live sample under its key
 keyed-in : (k : ℕ) (ss : List Live) → present (keyed k ss) ≡ true → (s : Live) × (In s ss × (s .key ≡ k))
@@ -174,7 +175,7 @@ module _ (n : ℕ) (ps : List Pair) where
   viewed-is ss old (some t) (s, g, f) = inr (s, g, ap accessedAt f)
 
 -- ---- each answer
-module _ (m : Model) (t : Bool) (ps : List Pair) (room : ℕ) where
+module _ (m : Model) (once : (n : ℕ) → timesHeld n (m .instances) ≤ 1) (t : Bool) (ps : List Pair) (room : ℕ) where
   abbrev Says : Step → Type 0
   Says x = Lists m t ps room x
 
@@ -192,8 +193,9 @@ module _ (m : Model) (t : Bool) (ps : List Pair) (room : ℕ) where
     by-8 = (λ h s. ill (fine m ps) e (fine-sound m ps .1 s), λ h. refl);
     by-9 = (λ h. absurd (omega (arith, number h)), λ h. absurd (ill (fine m ps) e (fine-sound m ps .1 (h .0))));
     by-no-other = λ r h. inl (sym (number h));
-    as-before = λ is h. refused-infos h;
+    answers = λ s l. absurd (ill (fine m ps) e (fine-sound m ps .1 s));
     as-many = λ is h. refused-infos h;
+    shows = λ is h. refused-infos h;
     exactly-those = λ s l n. absurd (ill (fine m ps) e (fine-sound m ps .1 s));
     last-accessed = λ s l n i j f g. absurd (ill (fine m ps) e (fine-sound m ps .1 s));
     lives-on = λ n i j f g. rw (same-some f g) (refl, refl);
@@ -206,8 +208,9 @@ module _ (m : Model) (t : Bool) (ps : List Pair) (room : ℕ) where
     by-8 = (λ h. absurd (omega (arith, number h)), λ h. absurd (h (fine-sound m ps .0 e)));
     by-9 = (λ h. (fine-sound m ps .0 e, leb-false (length ps) room l), λ h. refl);
     by-no-other = λ r h. inr (sym (number h));
-    as-before = λ is h. refused-infos h;
+    answers = λ s q. absurd (over q (leb-false (length ps) room l));
     as-many = λ is h. refused-infos h;
+    shows = λ is h. refused-infos h;
     exactly-those = λ s q n. absurd (over q (leb-false (length ps) room l));
     last-accessed = λ s q n i j f g. absurd (over q (leb-false (length ps) room l));
     lives-on = λ n i j f g. rw (same-some f g) (refl, refl);
@@ -247,8 +250,11 @@ module _ (m : Model) (t : Bool) (ps : List Pair) (room : ℕ) where
     by-8 = (λ h. refused-infos (sym h), λ h. absurd (h (fine-sound m ps .0 e)));
     by-9 = (λ h. refused-infos (sym h), λ h. absurd (over (leb-true (length ps) room l) (h .1)));
     by-no-other = λ r h. refused-infos (sym h);
-    as-before = λ is h. cc;
+    answers = λ s q. (infosFor m ps, refl);
     as-many = λ is h. let q : infosFor m ps ≡ is = cc in ap length (sym q) ∙ infos-length m _ _ ps (both (allLive m ps) (not (repeats ps)) e .0);
+    shows = λ is h place p y u v.
+        let q : infosFor m ps ≡ is = cc in
+        infos-shown m once ps (both (allLive m ps) (not (repeats ps)) e .0) place p y u (subst (λ l. AtPlace place l y) (sym q) v);
     exactly-those = λ s q n. stays n;
     last-accessed = λ s q n i j f g. views n i j f g;
     lives-on = life-stays;

@@ -8,7 +8,7 @@ use native.Mathlib.Decide.{decLt}
 use native.Mathlib.Omega.{arith}
 use lib.ListN.{length}
 use lib.Dec.{leb, ltb, eqb}
-use borrow.Author.Tests.{ltb-true, ltb-false, leb-true, leb-false, le-leb}
+use borrow.Author.Tests.{ltb-true, ltb-false, lt-ltb, leb-true, leb-false, le-leb}
 use Rattle.sampleinfo.specs.States.{madeBy}
 use Rattle.sampleinfo.specs.Counts.{total}
 use Rattle.sampleinfo.specs.Lifecycle.{stateOf, countsOf, isReborn, isLast}
@@ -20,8 +20,9 @@ use Rattle.keys.specs.declared.Last.{Last}
 use Rattle.keys.specs.declared.Last.the-variants as last
 use Rattle.keys.specs.declared.Issued.{Issued}
 use Rattle.keys.specs.declared.Issued.the-variants as issued
-use Rattle.model.specs.Model.{Model, Instance, SetUp, Arrival, Call, Step, setUp, add, Answer, refused, ok, added, find, lives, isNew, unkept, noKey, keyIn, issueOf, stateIn, wellFormed, oldOf, refusalOf, within, settingUp, accept, adding, access, step}
-use Rattle.model.specs.Demand3.{Sets, NoLaterKey, NoRoom, LastRebirth, NoSlot, Exactly}
+use Rattle.model.specs.Model.{Model, Instance, SetUp, Arrival, Call, Step, setUp, add, Answer, refused, ok, added, find, lives, isNew, unkept, noKey, keyIn, issueOf, stateIn, wellFormed, oldOf, refusalOf, within, keepOf, fresh, settingUp, accept, adding, access, step}
+use Rattle.model.specs.Bounds.{and-is, or-is, le-is, eq-is, accepted}
+use Rattle.model.specs.Demand3.{Sets, WellFormed, NoLaterKey, NoRoom, LastRebirth, NoSlot, Exactly}
 use Rattle.model.proofs.Laws.{split, Done, turned, began, came, lost, looked, went, asked, done}
 
 -- ---- a refused call changes nothing
@@ -51,10 +52,27 @@ not-ok e = let z : _≡_ {A = ℕ} 0 1 = cc in absurd (omega arith)
 pub set-up-step : (m : Model) (u : SetUp) → Sets m u (step m (setUp u))
 unfolding step settingUp
 set-up-step m u = split (within u)
-    (λ e. rw e (record { makes-fresh = λ h. refl; by-2 = (λ h. not-ok h, λ h. absurd (ill (within u) h e)); by-no-other = λ r h. not-ok h }))
-    (λ e. rw e (record { makes-fresh = λ h. absurd (ill (within u) e h); by-2 = (λ h. e, λ h. refl); by-no-other = λ r h. sym (number h) }))
+    (λ e. rw e (record {
+      makes-fresh = λ d b. ap started (accepted u d .1 b .1);
+      by-2 = (λ h. not-ok h, λ h. absurd (h (keepOf u) (accepted u (keepOf u) .0 (e, refl))));
+      by-no-other = λ r h. not-ok h;
+    }))
+    (λ e. rw e (record {
+      makes-fresh = λ d b. absurd (ill (within u) e (accepted u d .1 b .0));
+      by-2 = (λ h d b. ill (within u) e (accepted u d .1 b .0), λ h. refl);
+      by-no-other = λ r h. sym (number h);
+    }))
+  where
+    started : Option ℕ → Step
+    started d = record { answer = ok; then = fresh d (u .instances) }
 
 -- ---- why an add is refused
+pub formed-is : (a : Arrival) → (wellFormed a ≡ true) ↔ WellFormed a
+unfolding wellFormed
+formed-is a =
+    let x = and-is (or-is (eq-is (a .kind) 1) (eq-is (a .kind) 2)) (and-is (le-is 1 (a .seq)) (ltb-true (a .seq) (2 ^ 63), lt-ltb (a .seq) (2 ^ 63))) in
+    (λ e. record { kind = x .0 e .0; seq = x .0 e .1 }, λ h. x .1 (h .kind, h .seq))
+
 pub issue-given : (x : Issued) → noKey x ≡ false → x ≡ issued.Key (keyIn x)
 issue-given (issued.Key k) e = refl
 issue-given issued.Refused e = absurd (true≢false e)

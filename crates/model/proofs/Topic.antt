@@ -1,11 +1,12 @@
 -- The topic cache keeps its promises. A call is taken apart once, by the view `Done`; then each promise is a lemma by its cases.
 use mathlib.Core.Path.{_≡_, refl, sym, ap, _∙_, subst}
-use mathlib.Core.Bool.{Bool, true, false, _&&_, _||_, cond}
+use mathlib.Core.Logic.{_↔_, _⊎_, inl, inr}
+use mathlib.Core.Bool.{Bool, true, false, _&&_, _||_, cond, or-true, or-false}
 use mathlib.Core.List.{List, [], _∷_, _++_, append-nil}
 use mathlib.Core.Option.{Option, some, none}
-use Prim.Native.Nat.{ℕ, zero, suc, _+_, _-_, _^_, _%_, _≤_, _<_, max, min}
+use Prim.Native.Nat.{ℕ, zero, suc, _+_, _-_, _*_, _^_, _/_, _%_, _≤_, _<_, max, min}
 use native.Mathlib.Omega.{arith}
-use borrow.Author.Tests.{ltb-true, leb-true, leb-false, eqb-true, lt-leb}
+use borrow.Author.Tests.{ltb-true, leb-true, leb-false, le-leb, lt-leb, lt-ltb, eqb-true, eq-eqb}
 use lib.ListN.{length, drop, length-drop, length-append}
 use lib.Dec.{ltb, leb, eqb}
 use Rattle.keys.specs.Keys.{keyOf, Later, issuedNumber}
@@ -15,7 +16,11 @@ use Rattle.keys.specs.declared.Last.the-variants as last
 use Rattle.keys.specs.declared.Issued.{Issued}
 use Rattle.keys.specs.declared.Issued.the-variants as issued
 use Rattle.model.specs.Topic.{Entry, Limits, Topic, Change, Call, update, add, removeBefore, range, refused, ok, key, heldAlready, found, Step, places, inBounds, depthFits, limitsFit, raisedTo, raised, deeper, wider, mayFor, countBelow, removal, removedBefore, collected, collectEvery, collects, collectedFor, holdsPair, sameBytes, entryOf, refuse, issuing, seqFits, within, fresh, step}
-use Rattle.model.specs.TopicPromises.{run, keyIn, issuedBy, Rises, keysOf, isPair, times, AtLeast, Higher, FromTheOldest, IsLast, NoLaterKey, heldFor, AddAnswers, UpdateAnswers, RangeAnswers, Leaves, TopicPromises}
+use Rattle.model.specs.Bounds.{and-is, le-is}
+use Rattle.model.specs.TopicPromises.{run, keyIn, issuedBy, Rises, keysOf, isPair, times, FromTheOldest, NoLaterKey}
+use Rattle.model.specs.TopicPromises.{AtLeast, Higher, LimitBounds, Raised, Greater}
+use Rattle.model.specs.TopicPromises.{InRange, MultipleOf, Collects, small, medium, large, full, First, collecting, as-it-is, heldIn}
+use Rattle.model.specs.TopicPromises.{AddAnswers, UpdateAnswers, RangeAnswers, Leaves, TopicPromises}
 
 split {ℓ} : {C : Type ℓ} (b : Bool) → (b ≡ true → C) → (b ≡ false → C) → C
 split true t f = t refl
@@ -74,12 +79,6 @@ unchanged c (removes t) n q = let z : _≡_ {A = ℕ} 0 1 = cc in absurd (omega 
 unchanged c (finds s t room e) n q = refl
 unchanged c (by-9 s t room e) n q = refl
 
-last-one : (c : Topic) (x : Change) {y : Step} → Done c (add x) y → (k : ℕ) → y .answer ≡ key k → IsLast c x k (y .then)
-last-one c x (by-1 x' e) k q = let z : _≡_ {A = ℕ} 0 1 = cc in absurd (omega arith)
-last-one c x (again x' e h) k q = let z : _≡_ {A = ℕ} 0 1 = cc in absurd (omega arith)
-last-one c x (by-6 x' e h i) k q = let z : _≡_ {A = ℕ} 0 1 = cc in absurd (omega arith)
-last-one c x (accepts x' n e h i) k q = let p : n ≡ k = cc in record { n = dropsIn c x; whole = rw p }
-
 oldest : (c : Topic) {x : Call} {y : Step} → Done c x y → FromTheOldest c x y
 oldest c (raises l e) = record { n = 0; rest = sym (append-nil (c .entries)) }
 oldest c (by-2 l e) = record { n = 0; rest = sym (append-nil (c .entries)) }
@@ -108,6 +107,31 @@ at-least-trans (some a) none d p q = absurd p
 at-least-trans (some a) (some b) none p q = absurd q
 at-least-trans (some a) (some b) (some d) p q = omega (arith, p, q)
 
+max-one : (a b : ℕ) → (max a b ≡ a) ⊎ (max a b ≡ b)
+max-one a b = split (leb a b) (λ e. inr (omega (arith, leb-true a b e))) (λ e. inl (omega (arith, leb-false a b e)))
+
+at-least-other : (d e : Option ℕ) → AtLeast (deeper d e) e
+at-least-other none e = tt
+at-least-other (some d) none = tt
+at-least-other (some d) (some e) = omega arith
+
+deeper-one : (d e : Option ℕ) → (deeper d e ≡ d) ⊎ (deeper d e ≡ e)
+deeper-one none e = inl refl
+deeper-one (some d) none = inr refl
+deeper-one (some d) (some e) = go (max-one d e)
+  where
+    go : (max d e ≡ d) ⊎ (max d e ≡ e) → (some (max d e) ≡ some d) ⊎ (some (max d e) ≡ some e)
+    go (inl q) = inl (ap some q)
+    go (inr q) = inr (ap some q)
+
+greater-is : (l k : Limits) → Greater l k (wider l k)
+greater-is l k = record {
+  than-old = record { depth = at-least-deeper (l .depth) (k .depth); most = omega arith };
+  than-new = record { depth = at-least-other (l .depth) (k .depth); most = omega arith };
+  depth = deeper-one (l .depth) (k .depth);
+  most = max-one (l .most) (k .most);
+}
+
 same-limits : (c : Topic) → Higher (c .limits) (c .limits)
 same-limits c = record { depth = at-least-same (c .limits .depth); most = omega arith }
 
@@ -130,7 +154,10 @@ unfolding run
 limits-rise c [] = same-limits c
 limits-rise c (x ∷ xs) = higher-trans (run (step c x .then) xs .limits) (step c x .then .limits) (c .limits) (limits-rise (step c x .then) xs) (higher c (done c x))
 
--- ---- places
+-- ---- tests
+
+no-bool : {C : Type 0} (b : Bool) → b ≡ true → b ≡ false → C
+no-bool b p q = let z : true ≡ false = sym p ∙ q in let y : _≡_ {A = ℕ} 0 1 = cc in absurd (omega arith)
 
 and-left : (a b : Bool) → (a && b) ≡ true → a ≡ true
 and-left true b e = refl
@@ -140,8 +167,31 @@ and-right : (a b : Bool) → (a && b) ≡ true → b ≡ true
 and-right true b e = e
 and-right false b e = let z : _≡_ {A = ℕ} 0 1 = cc in absurd (omega arith)
 
+-- ---- limits within their bounds, and raised
+
+in-bounds : (n : ℕ) → (inBounds n ≡ true) ↔ ((1 ≤ n) × (n ≤ 256))
+in-bounds n = and-is (le-is 1 n) (le-is n 256)
+
+depth-fits : (o : Option ℕ) → (depthFits o ≡ true) ↔ ((d : ℕ) → o ≡ some d → (1 ≤ d) × (d ≤ 256))
+depth-fits none = (λ e d q. let z : _≡_ {A = ℕ} 0 1 = cc in absurd (omega arith), λ h. refl)
+depth-fits (some n) = (λ e d q. let p : n ≡ d = cc in in-bounds d .0 (rw p at e), λ h. in-bounds n .1 (h n refl))
+
+limits-fit : (l : Limits) → (limitsFit l ≡ true) ↔ LimitBounds l
+unfolding limitsFit
+limits-fit l = let x = and-is (in-bounds (l .most)) (depth-fits (l .depth)) in (λ e. record { most = x .0 e .0; depth = x .0 e .1 }, λ h. x .1 (h .most, h .depth))
+
+raised-is : (l : Limits) → Raised l (raised l)
+raised-is l = record {
+  depth = refl;
+  smaller = λ d q h. ap (λ (o : Option ℕ). raisedTo o (l .most)) q ∙ omega arith;
+  not-smaller = λ d q h. ap (λ (o : Option ℕ). raisedTo o (l .most)) q ∙ omega arith;
+  keep-all = λ q. ap (λ (o : Option ℕ). raisedTo o (l .most)) q;
+}
+
+-- ---- places
+
 bounded : (n : ℕ) → inBounds n ≡ true → n ≤ 256
-bounded n e = leb-true n 256 (and-right (leb 1 n) (leb n 256) e)
+bounded n e = in-bounds n .0 e .1
 
 raised-low : (l : Limits) → limitsFit l ≡ true → raised l .most ≤ 256
 unfolding limitsFit
@@ -371,11 +421,54 @@ once-fresh l w s = omega (arith, times-nil w s)
 
 -- ---- the answers to an add
 
-no-bool : {C : Type 0} (b : Bool) → b ≡ true → b ≡ false → C
-no-bool b p q = let z : true ≡ false = sym p ∙ q in let y : _≡_ {A = ℕ} 0 1 = cc in absurd (omega arith)
+-- when it collects
+every-64 : (n : ℕ) → (eqb (n % 64) 0 ≡ true) ↔ MultipleOf 64 n
+every-64 n = (λ e. (n / 64, omega (arith, eqb-true (n % 64) 0 e)), λ (j, q). eq-eqb (n % 64) 0 (omega arith))
 
-held-is : (c : Topic) (x : Change) → heldFor c x ≡ holdsPair (x .writer) (x .seq) (drop (dropsIn c x) (c .entries))
-held-is c x = rw (collected-is c x)
+every-8 : (n : ℕ) → (eqb (n % 8) 0 ≡ true) ↔ MultipleOf 8 n
+every-8 n = (λ e. (n / 8, omega (arith, eqb-true (n % 8) 0 e)), λ (j, q). eq-eqb (n % 8) 0 (omega arith))
+
+every-1 : (n : ℕ) → eqb (n % 1) 0 ≡ true
+every-1 n = eq-eqb (n % 1) 0 (omega arith)
+
+module _ (c : Topic) (x : Change) where
+  abbrev sized : Bool
+  sized = eqb (x .seq % collectEvery (x .size)) 0
+
+  sized-there : sized ≡ true → Collects c x
+  sized-there e = split (leb (x .size) 1024)
+      (λ a. small (leb-true (x .size) 1024 a) (every-64 (x .seq) .0 (rw a at e)))
+      (λ a. split (leb (x .size) 65536)
+      (λ b. medium (leb-false (x .size) 1024 a) (leb-true (x .size) 65536 b) (every-8 (x .seq) .0 (rw (a, b) at e)))
+      (λ b. large (leb-false (x .size) 65536 b)))
+
+  collects-there : (a b : Bool) → sized ≡ a → leb places (length (c .entries)) ≡ b → a || b ≡ true → Collects c x
+  collects-there true b p q e = sized-there p
+  collects-there false b p q e = full (leb-true places (length (c .entries)) (q ∙ e))
+
+  sized-back : sized ≡ true → sized || leb places (length (c .entries)) ≡ true
+  sized-back e = rw e
+
+  collects-back : Collects c x → sized || leb places (length (c .entries)) ≡ true
+  collects-back (small h k) = sized-back (rw (le-leb (x .size) 1024 h) (every-64 (x .seq) .1 k))
+  collects-back (medium g h k) = sized-back (rw (lt-leb (x .size) 1024 g, le-leb (x .size) 65536 h) (every-8 (x .seq) .1 k))
+  collects-back (large h) = sized-back (rw (lt-leb (x .size) 1024 (omega arith), lt-leb (x .size) 65536 h) (every-1 (x .seq)))
+  collects-back (full h) = rw (le-leb places (length (c .entries)) h) (or-true sized)
+
+  collects-is : (collects c x ≡ true) ↔ Collects c x
+  unfolding collects
+  collects-is = (λ e. collects-there sized (leb places (length (c .entries))) refl refl e, collects-back)
+
+  some-first : (first : Topic) × First c x first
+  some-first = split (collects c x)
+      (λ e. (collected c, collecting (collects-is .0 e)))
+      (λ e. (c, as-it-is (λ h. no-bool (collects c x) (collects-is .1 h) e)))
+
+  first-is : {first : Topic} → First c x first → first ≡ left c (dropsIn c x)
+  first-is (collecting h) = sym (ap (λ (b : Bool). cond b (collected c) c) (collects-is .1 h)) ∙ collected-is c x
+  first-is (as-it-is h) = split (collects c x)
+      (λ e. absurd (h (collects-is .0 e)))
+      (λ e. sym (ap (λ (b : Bool). cond b (collected c) c) e) ∙ collected-is c x)
 
 refused-later : (c : Topic) (time : ℕ) → keyOf (c .last) time ≡ issued.Refused → NoLaterKey c
 refused-later c time e = refused-none (c .last) time (ap issuedNumber e)
@@ -383,31 +476,52 @@ refused-later c time e = refused-none (c .last) time (ap issuedNumber e)
 later-refused : (c : Topic) (time k : ℕ) → time < 2 ^ 64 → NoLaterKey c → keyOf (c .last) time ≡ issued.Key k → ⊥
 later-refused c time k h n e = let z : _≡_ {A = ℕ} 0 6 = ap issuedNumber (sym e) ∙ none-refused (c .last) time h n in omega arith
 
-answers : (c : Topic) (x : Change) {y : Step} → Done c (add x) y → x .time < 2 ^ 64 → AddAnswers c x (y .answer)
-answers c x (by-1 x' e) h = record {
-  by-1 = (λ q. e, λ q. refl);
-  again = (λ q. let z : _≡_ {A = ℕ} 0 1 = cc in absurd (omega arith), λ q. no-bool (seqFits (x .seq)) (q .0) e);
-  by-6 = (λ q. let z : _≡_ {A = ℕ} 1 6 = cc in absurd (omega arith), λ q. no-bool (seqFits (x .seq)) (q .0) e);
+in-range : (s : ℕ) → (seqFits s ≡ true) ↔ InRange s
+unfolding seqFits
+in-range s = and-is (le-is 1 s) (ltb-true s (2 ^ 63), lt-ltb s (2 ^ 63))
+
+answers : (c first : Topic) (x : Change) {y : Step} → Done c (add x) y → first ≡ left c (dropsIn c x) → x .time < 2 ^ 64 → AddAnswers c first x y
+answers c first x (by-1 x' e) f h = record {
+  by-1 = (λ q h. no-bool (seqFits (x .seq)) (in-range (x .seq) .1 h) e, λ q. refl);
+  again = (λ q. let z : _≡_ {A = ℕ} 0 1 = cc in absurd (omega arith), λ q. no-bool (seqFits (x .seq)) (in-range (x .seq) .1 (q .0)) e);
+  stands = λ q. let z : _≡_ {A = ℕ} 0 1 = cc in absurd (omega arith);
+  by-6 = (λ q. let z : _≡_ {A = ℕ} 1 6 = cc in absurd (omega arith), λ q. no-bool (seqFits (x .seq)) (in-range (x .seq) .1 (q .0)) e);
   by-no-other = λ n q d. let z : n ≡ 1 = cc in absurd (d z);
+  accepted = λ k q. let z : _≡_ {A = ℕ} 0 1 = cc in absurd (omega arith);
 }
-answers c x (again x' e i) h = record {
-  by-1 = (λ q. let z : _≡_ {A = ℕ} 0 1 = cc in absurd (omega arith), λ q. no-bool (seqFits (x .seq)) e q);
-  again = (λ q. (e, held-is c x ∙ i), λ q. refl);
-  by-6 = (λ q. let z : _≡_ {A = ℕ} 0 1 = cc in absurd (omega arith), λ q. no-bool (heldFor c x) (held-is c x ∙ i) (q .1));
+answers c first x (again x' e i) f h = record {
+  by-1 = (λ q. let z : _≡_ {A = ℕ} 0 1 = cc in absurd (omega arith), λ q. absurd (q (in-range (x .seq) .0 e)));
+  again = (λ q. (in-range (x .seq) .0 e, held), λ q. refl);
+  stands = λ q. sym f;
+  by-6 = (λ q. let z : _≡_ {A = ℕ} 0 1 = cc in absurd (omega arith), λ q. no-bool (heldIn first x) held (q .1));
   by-no-other = λ n q d. let z : _≡_ {A = ℕ} 0 1 = cc in absurd (omega arith);
+  accepted = λ k q. let z : _≡_ {A = ℕ} 0 1 = cc in absurd (omega arith);
 }
-answers c x (by-6 x' e i j) h = record {
-  by-1 = (λ q. let z : _≡_ {A = ℕ} 6 1 = cc in absurd (omega arith), λ q. no-bool (seqFits (x .seq)) e q);
-  again = (λ q. let z : _≡_ {A = ℕ} 0 1 = cc in absurd (omega arith), λ q. no-bool (heldFor c x) (q .1) (held-is c x ∙ i));
-  by-6 = (λ q. (e, held-is c x ∙ i, refused-later c (x .time) j), λ q. refl);
+  where
+    held : heldIn first x ≡ true
+    held = ap (λ (t : Topic). heldIn t x) f ∙ i
+answers c first x (by-6 x' e i j) f h = record {
+  by-1 = (λ q. let z : _≡_ {A = ℕ} 6 1 = cc in absurd (omega arith), λ q. absurd (q (in-range (x .seq) .0 e)));
+  again = (λ q. let z : _≡_ {A = ℕ} 0 1 = cc in absurd (omega arith), λ q. no-bool (heldIn first x) (q .1) free);
+  stands = λ q. let z : _≡_ {A = ℕ} 0 1 = cc in absurd (omega arith);
+  by-6 = (λ q. (in-range (x .seq) .0 e, free, refused-later c (x .time) j), λ q. refl);
   by-no-other = λ n q d. let z : n ≡ 6 = cc in z;
+  accepted = λ k q. let z : _≡_ {A = ℕ} 0 1 = cc in absurd (omega arith);
 }
-answers c x (accepts x' k e i j) h = record {
-  by-1 = (λ q. let z : _≡_ {A = ℕ} 0 1 = cc in absurd (omega arith), λ q. no-bool (seqFits (x .seq)) e q);
-  again = (λ q. let z : _≡_ {A = ℕ} 0 1 = cc in absurd (omega arith), λ q. no-bool (heldFor c x) (q .1) (held-is c x ∙ i));
-  by-6 = (λ q. let z : _≡_ {A = ℕ} 0 1 = cc in absurd (omega arith), λ q. absurd (later-refused c (x .time) k h (q .2) j));
-  by-no-other = λ n q d. let z : _≡_ {A = ℕ} 0 1 = cc in absurd (omega arith);
+  where
+    free : heldIn first x ≡ false
+    free = ap (λ (t : Topic). heldIn t x) f ∙ i
+answers c first x (accepts x' n e i j) f h = record {
+  by-1 = (λ q. let z : _≡_ {A = ℕ} 0 1 = cc in absurd (omega arith), λ q. absurd (q (in-range (x .seq) .0 e)));
+  again = (λ q. let z : _≡_ {A = ℕ} 0 1 = cc in absurd (omega arith), λ q. no-bool (heldIn first x) (q .1) free);
+  stands = λ q. let z : _≡_ {A = ℕ} 0 1 = cc in absurd (omega arith);
+  by-6 = (λ q. let z : _≡_ {A = ℕ} 0 1 = cc in absurd (omega arith), λ q. absurd (later-refused c (x .time) n h (q .2) j));
+  by-no-other = λ r q d. let z : _≡_ {A = ℕ} 0 1 = cc in absurd (omega arith);
+  accepted = λ k q. let p : n ≡ k = cc in (j ∙ ap issued.Key p, rw (p, f));
 }
+  where
+    free : heldIn first x ≡ false
+    free = ap (λ (t : Topic). heldIn t x) f ∙ i
 
 -- ---- how many a removal leaves
 
@@ -426,6 +540,15 @@ kept d held n h = omega arith
 
 over-depth : (d most held below : ℕ) → d ≤ most → min d held ≤ leftOver (some d) most held below
 over-depth d most held below h = kept d held _ (no-more (held - most) (max (held - most) (held - d)) below (held - d) (omega arith) (omega arith))
+
+no-less : (m x below k : ℕ) → k ≤ x → min k below ≤ max m (min x below)
+no-less m x below k h = omega arith
+
+rest : (d held below n : ℕ) → min (held - d) below ≤ n → held - n ≤ max d (held - below)
+rest d held below n h = omega arith
+
+over-old : (d most held below : ℕ) → leftOver (some d) most held below ≤ max d (held - below)
+over-old d most held below = rest d held below _ (no-less (held - most) (max (held - most) (held - d)) below (held - d) (omega arith))
 
 over-all : (most held below : ℕ) → leftOver none most held below ≡ min most held
 over-all most held below = omega arith
@@ -446,6 +569,7 @@ left-by c t =
     record {
       within-most = rw e (over-most (c .limits .depth) most held below);
       keeps-depth = λ d q h. rw e (subst (λ (o : Option ℕ). min d held ≤ leftOver o most held below) (sym q) (over-depth d most held below h));
+      drops-old = λ d q. rw e (subst (λ (o : Option ℕ). leftOver o most held below ≤ max d (held - below)) (sym q) (over-old d most held below));
       keeps-all = λ q. e ∙ ap (λ (o : Option ℕ). leftOver o most held below) q ∙ over-all most held below;
       keeps-late = rw e (over-late (c .limits .depth) most held below);
     }
@@ -453,8 +577,14 @@ left-by c t =
 -- ---- the other answers
 
 update-answered : (c : Topic) (l : Limits) {y : Step} → Done c (update l) y → UpdateAnswers c l y
-update-answered c l (raises l' e) = record { by-2 = (λ q. let z : _≡_ {A = ℕ} 0 1 = cc in absurd (omega arith), λ q. no-bool (limitsFit l) e q); raises = λ q. refl }
-update-answered c l (by-2 l' e) = record { by-2 = (λ q. e, λ q. refl); raises = λ q. no-bool (limitsFit l) q e }
+update-answered c l (raises l' e) = record {
+  by-2 = (λ q. let z : _≡_ {A = ℕ} 0 1 = cc in absurd (omega arith), λ q. absurd (q (limits-fit l .0 e)));
+  raises = λ h. (raised l, wider (c .limits) (raised l), raised-is l, greater-is (c .limits) (raised l), refl);
+}
+update-answered c l (by-2 l' e) = record {
+  by-2 = (λ q h. no-bool (limitsFit l) (limits-fit l .1 h) e, λ q. refl);
+  raises = λ h. no-bool (limitsFit l) (limits-fit l .1 h) e;
+}
 
 range-answered : (c : Topic) (s t room : ℕ) {y : Step} → Done c (range s t room) y → RangeAnswers c s t room (y .answer)
 range-answered c s t room (finds s' t' room' e) = record {
@@ -474,11 +604,14 @@ topic-promises = record {
   few = λ l xs e. fits-run (fresh l) xs (fits-fresh l e) .few;
   from-the-oldest = λ c x. oldest c (done c x);
   leaves = left-by;
+  limits-fit = limits-fit;
+  limits-raised = raised-is;
+  limits-default = (refl, refl);
   limits-rise = limits-rise;
   room = λ l xs e. collected-room (run (fresh l) xs) (fits-run (fresh l) xs (fits-fresh l e));
   refused-changes-nothing = λ c x n e. unchanged c (done c x) n e;
-  accepted-is-last = λ c x k e. last-one c x (done c (add x)) k e;
-  add-answers = λ c x h. answers c x (done c (add x)) h;
+  add-first = some-first;
+  add-answers = λ c first x f h. answers c first x (done c (add x)) (first-is c x f) h;
   update-answers = λ c l. update-answered c l (done c (update l));
   range-answers = λ c s t room. range-answered c s t room (done c (range s t room));
   start-above-end = none-within;

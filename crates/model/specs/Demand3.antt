@@ -4,13 +4,16 @@ use mathlib.Core.Logic.{_↔_, _⊎_}
 use mathlib.Core.Bool.{Bool, true, false, cond}
 use mathlib.Core.List.{List, [], _∷_, _++_, map}
 use mathlib.Core.Option.{Option, some, none}
-use Prim.Native.Nat.{ℕ, _+_, _*_, _^_, _≤_, _<_, min}
+use Prim.Native.Nat.{ℕ, zero, suc, _+_, _-_, _*_, _^_, _≤_, _<_, min}
 use lib.ListN.{length}
 use lib.Dec.{eqb}
+use lib.IntN.{pos, _-ℤ_}
 use Rattle.sampleinfo.specs.States.{handleOf}
 use Rattle.sampleinfo.specs.Counts.{total, accessedAt}
 use Rattle.sampleinfo.specs.Lifecycle.{meta, stateOf, countsOf, accessedOf, isAlive, isReborn}
 use Rattle.sampleinfo.specs.Samples.{sampleStateOf, totalOf}
+use Rattle.sampleinfo.specs.declared.SampleState.the-variants.{Read}
+use Rattle.sampleinfo.specs.declared.ViewState.the-variants.{New}
 use Rattle.sampleinfo.specs.declared.InstanceState.the-variants.{NotAliveNoWriters}
 use Rattle.sampleinfo.specs.declared.Info.{Info}
 use Rattle.readcondition.specs.Masks.{chosenBy, isValid}
@@ -20,7 +23,9 @@ use Rattle.keys.specs.declared.Last.the-variants as last
 use Rattle.keys.specs.declared.Issued.the-variants as issued
 use Rattle.model.specs.Pairs.{Pair, among}
 use Rattle.model.specs.Views.{viewOf}
-use Rattle.model.specs.Model.{Live, Instance, Model, SetUp, Arrival, Call, setUp, add, dies, look, list, after, Answer, refused, ok, added, selected, infos, next, Step, within, keepOf, fresh, find, liveIn, lives, count, inSlot, wellFormed, stateIn, liveOf, roomy, infosFor, asRead, step}
+use Rattle.model.specs.Model.{Live, Instance, Model, SetUp, Arrival, Call, setUp, add, dies, look, list, after, Answer, refused, ok, added, selected, infos, next}
+use Rattle.model.specs.Model.{Step, step, fresh, find, liveIn, lives, count, inSlot, wellFormed, stateIn, liveOf, roomy, asRead}
+use Rattle.model.specs.Bounds.{Bounds}
 use Rattle.model.specs.Story.{Event, Entry, storyOf, entriesOf, untaken, lastOf, liveAt, allKeys, entryKeys, lastKey, Rises, AtMost, Every}
 
 -- ---- words
@@ -46,16 +51,22 @@ abbrev pub Bounded : Option ℕ → ℕ → Type 0
 Bounded none i = (0 < i) × (i ≤ 32)
 Bounded (some d) i = (0 < d) × (i * d ≤ 256) × (0 < i) × (i ≤ 32)
 
--- "An accepted set-up makes the cache fresh"; 2: "mode, set-up or keep limits outside their bounds"
+-- "An accepted set-up makes the cache fresh"; 2: "mode, set-up or keep limits outside their bounds". `Bounds u d` (Bounds.antt): u is within
+-- them, and d is its keep count. `accepted` there says of the test `within`, which the theorems have as premise, and of `keepOf` that they are just this
 pub record Sets (m : Model) (u : SetUp) (x : Step) : Type 0 where
-  pub makes-fresh : within u ≡ true → x ≡ record { answer = ok; then = fresh (keepOf u) (u .instances) }
-  pub by-2 : (x .answer ≡ refused 2) ↔ (within u ≡ false)
+  pub makes-fresh : (d : Option ℕ) → Bounds u d → x ≡ record { answer = ok; then = fresh d (u .instances) }
+  pub by-2 : (x .answer ≡ refused 2) ↔ ((d : Option ℕ) → ¬ Bounds u d)
   pub by-no-other : (r : ℕ) → x .answer ≡ refused r → r ≡ 2
 
 abbrev pub hasKey : ℕ → Live → Bool
 hasKey k s = eqb (s .key) k
 
 -- ---- why an add is refused
+-- not 1: "kind not 1 or 2, sequence number out of range"; "sequence number 1 to 2^63-1"
+pub record WellFormed (a : Arrival) : Type 0 where
+  pub kind : (a .kind ≡ 1) ⊎ (a .kind ≡ 2)
+  pub seq : (1 ≤ a .seq) × (a .seq < 2 ^ 63)
+
 -- 6: "no key later than the last issued exists"
 abbrev pub NoLaterKey : Model → Type 0
 NoLaterKey m = (k : ℕ) → Later (m .last) k → 2 ^ 64 ≤ k
@@ -184,14 +195,49 @@ Greatest ps n ss s = In s ss × (names ps n s ≡ true) × ((x : Live) → In x 
 abbrev pub Viewed : List Pair → ℕ → List Live → ℕ → ℕ → Type 0
 Viewed ps n ss old new = (((s : Live) → In s ss → names ps n s ≡ false) × (new ≡ old)) ⊎ ((s : Live) × Greatest ps n ss s × (new ≡ accessedAt (totalOf (s .sample))))
 
+-- what stands at a place of a list, the places counted from 0
+abbrev pub AtPlace : {A : Type 0} → ℕ → List A → A → Type 0
+AtPlace n [] a = ⊥
+AtPlace zero (b ∷ l) a = a ≡ b
+AtPlace (suc n) (b ∷ l) a = AtPlace n l a
+
+-- "the latest-keyed live sample of the whole cache": it is live, and no live sample has a later key
+abbrev pub Latest : Model → Live → Type 0
+Latest m s = ((n : ℕ) × In s (liveAt n m)) × ((n : ℕ) (x : Live) → In x (liveAt n m) → x .key ≤ s .key)
+
+-- the info x of the pair p at a place of the list ps, "with everything as before the call"
+pub record Shows (m : Model) (ps : List Pair) (place : ℕ) (p : Pair) (x : Info) : Type 0 where
+  -- the sample that the pair names, and its instance
+  pub live : Live
+  pub instance : Instance
+  pub is-live : IsAt m p live
+  pub is-held : find (p .name) (m .instances) ≡ some instance
+  -- of the sample: handle and kind, whether it was read, its own counts, its writer and sequence number
+  pub body : x .body ≡ live .sample .body
+  pub sample-state : (x .«sample_state» ≡ Read) ↔ (live .sample .«sample_has_been_read» ≡ true)
+  pub counts : x .«generation_counts» ≡ live .sample .«generation_counts»
+  pub writer : x .«publication_handle» ≡ live .sample .«writer_guid»
+  pub sequence-number : x .«sequence_number» ≡ live .sample .«sequence_number»
+  -- of its instance: "A sample is New if its total is greater than its instance's last accessed total", which is kept with 2 added
+  pub view-state : (x .«view_state» ≡ New) ↔ (accessedOf (instance .meta) < accessedAt (totalOf (live .sample)))
+  pub instance-state : x .«instance_state» ≡ stateOf (instance .meta)
+  -- "For place p of m: sample_rank is m-1-p"
+  pub sample-rank : x .«sample_rank» ≡ length ps - 1 - place
+  -- "generation_rank is the latest total of the last pair's instance minus the sample's total"
+  pub generation-rank : (q : Pair) × (i : Instance) × AtPlace (length ps - 1) ps q × (find (q .name) (m .instances) ≡ some i)
+      × (x .«generation_rank» ≡ pos (total (countsOf (i .meta))) -ℤ pos (totalOf (live .sample)))
+  -- "absolute_generation_rank is the total of the latest-keyed live sample of the whole cache minus the sample's"
+  pub absolute-rank : (s : Live) × Latest m s × (x .«absolute_generation_rank» ≡ pos (totalOf (s .sample)) -ℤ pos (totalOf (live .sample)))
+
 -- 8: "key list names a pair not live, or a pair twice"; then 9
 pub record Lists (m : Model) (t : Bool) (ps : List Pair) (room : ℕ) (x : Step) : Type 0 where
   pub by-8 : (x .answer ≡ refused 8) ↔ (¬ Sound m ps)
   pub by-9 : (x .answer ≡ refused 9) ↔ (Sound m ps × (room < length ps))
   pub by-no-other : (r : ℕ) → x .answer ≡ refused r → (r ≡ 8) ⊎ (r ≡ 9)
-  -- the infos are those of the pairs, "with everything as before the call", and as many
-  pub as-before : (is : List Info) → x .answer ≡ infos is → is ≡ infosFor m ps
+  -- else as many infos as pairs, each that of its pair
+  pub answers : Sound m ps → length ps ≤ room → (is : List Info) × (x .answer ≡ infos is)
   pub as-many : (is : List Info) → x .answer ≡ infos is → length is ≡ length ps
+  pub shows : (is : List Info) → x .answer ≡ infos is → (place : ℕ) (p : Pair) (y : Info) → AtPlace place ps p → AtPlace place is y → Shows m ps place p y
   pub exactly-those : Sound m ps → length ps ≤ room → (n : ℕ) → liveAt n (x .then) ≡ remains t ps n (liveAt n m)
   pub last-accessed : Sound m ps → length ps ≤ room → (n : ℕ) (i j : Instance) → find n (m .instances) ≡ some i → find n (x .then .instances) ≡ some j
       → Viewed ps n (liveIn (i .places)) (accessedOf (i .meta)) (accessedOf (j .meta))
@@ -219,6 +265,7 @@ pub record Demand3 (d : Option ℕ) (now : Model) (seen : List Event) : Type 0 w
   pub last-key : now .last ≡ lastKey last.Never (allKeys seen)
   pub live-keys : (n : ℕ) → Every (λ s. AtMost (now .last) (s .key)) (liveAt n now)
   -- (c) an add is refused exactly as demanded, under a keep count never with 5
+  pub well-formed : (a : Arrival) → (wellFormed a ≡ true) ↔ WellFormed a
   pub exactly : (a : Arrival) → a .time < 2 ^ 64 → Exactly now a ((step now (add a)) .answer)
   pub refused-iff : (k : ℕ) → now .keep ≡ some k → (a : Arrival) → wellFormed a ≡ true → a .time < 2 ^ 64
       → ((r : ℕ) × ((step now (add a)) .answer ≡ refused r)) ↔ (NoLaterKey now ⊎ NoRoom now a ⊎ LastRebirth now a)

@@ -1,6 +1,7 @@
 pub mod Pairs
 pub mod Views
 pub mod Model
+pub mod Bounds
 pub mod Session
 pub mod Topic
 pub mod TopicPromises

@@ -18,15 +18,17 @@ use Rattle.keys.specs.declared.Last.{Last}
 use Rattle.keys.specs.declared.Last.the-variants as last
 use Rattle.keys.specs.declared.Issued.{Issued}
 use Rattle.keys.specs.declared.Issued.the-variants as issued
+use Rattle.model.specs.Topic.{Limits, defaults}
 use Rattle.model.specs.Topic.{Entry, Topic, Change, places, inBounds, depthFits, limitsFit, raisedTo, deeper, mustRemove, mayRemove, mayFor, countBelow, removal, removedBefore, collects, collectedFor, sameBytes, holdsPair, entryOf, seqFits, Call, update, add, removeBefore, range, Step, issuing, adding, fresh, within, step}
 use Rattle.model.specs.Story.{Every}
 use Rattle.model.proofs.Laws.{split, every-imp, every-append, every-drop, map-append}
 use Rattle.model.proofs.Refusals.{both}
 use Rattle.rust_model.specs.Maps.{get, insert}
 use Rattle.rust_model.specs.DataSampleCache.{History, KeepLast}
-use Rattle.rust_model.specs.TopicCache.{CacheChange, Changes, Indexed, TopicCache, Added, atLeast, maxHistory, new, isFor, «find_by_sn», «remove_sn», «insert_sn», oldestToRetain, splitOff, leftBefore, toRetain, toRemove, removeSns, «remove_changes_before», modulus, gcTriggered, collected, keyFor, withoutOld, addingUnless, saneStart, inRange}
+use Rattle.rust_model.specs.TopicCache.{CacheChange, Changes, Indexed, TopicCache, QosPolicies, Added, atLeast, maxHistory, new, isFor, «find_by_sn», «remove_sn», «insert_sn», oldestToRetain, splitOff, leftBefore, toRetain, toRemove, removeSns, «remove_changes_before», modulus, gcTriggered, collected, keyFor, withoutOld, addingUnless, saneStart, inRange}
 use Rattle.rust_model.specs.TopicCache as Rust
 use Rattle.rust_model.specs.TopicEqual.{accepted, Ground, historyOf, qosOf, changeOf, Reply, gave, storedAt, call, replies, cacheAfter, heldAs, seen, answers, run, TopicsEqual, TopicEqualToTheRust}
+use Rattle.rust_model.specs.TopicEqual.{emptyQos, historyAlone, samplesAlone, depthAlone, mostAlone, EqualFrom, DefaultsEqualTheRust}
 use Rattle.rust_model.proofs.MapLaws.{same-eqb, get-past, insert-end}
 
 -- ---- writers and sequence numbers
@@ -496,3 +498,15 @@ topic-equal-to-the-rust l e cs g = all-equal (fresh l) (new (qosOf l)) cs (recor
   once = tt;
   top = tt;
 }) g
+
+-- a QoS that names neither, or one of the two, makes the cache that one naming both with the defaults makes
+defaulted : (l : Limits) (qos : QosPolicies) → new (qosOf l) ≡ new qos → limitsFit l ≡ true → EqualFrom l qos
+defaulted l qos e f cs g = subst (λ c. TopicsEqual (fresh l) c cs) e (topic-equal-to-the-rust l f cs g)
+
+pub defaults-equal-the-rust : DefaultsEqualTheRust
+defaults-equal-the-rust = record {
+  empty = defaulted defaults emptyQos refl (unfold limitsFit in refl);
+  update-empty = λ c. refl;
+  history-alone = λ d f. defaulted (depthAlone d) (historyAlone d) refl f;
+  samples-alone = λ n f. defaulted (mostAlone n) (samplesAlone n) refl f;
+}

@@ -1,4 +1,4 @@
--- The ground has members, with both ways in which an add stands on it.
+-- The grounds have members: the cache's with both ways in which an add stands on it, the topic cache's from its defaults.
 use mathlib.Core.Path.{_≡_, refl}
 use mathlib.Core.Logic.{inl, inr}
 use mathlib.Core.Bool.{true}
@@ -13,7 +13,9 @@ use Rattle.model.specs.Pairs as P
 use Rattle.model.specs.Model as M
 use Rattle.model.specs.Model.{Call, add, list, fresh}
 use Rattle.model.specs.Story.{run, trace, keysFrom}
+use Rattle.model.specs.Topic as T
 use Rattle.rust_model.specs.Ground.{Ground}
+use Rattle.rust_model.specs.TopicEqual as TopicEqual
 
 abbrev arrives : ℕ → ℕ → Call
 arrives n t = add (record { name = n; writer = replicate 16 0; seq = 1; time = t; kind = 1; handle = 1 })
@@ -38,3 +40,12 @@ ground-has-members = (
     ),
   ),
 )
+
+abbrev changes : ℕ → ℕ → ℕ → T.Call
+changes t s size = T.add (record { time = t; writer = replicate 16 0; seq = s; handle = 1; size = size })
+
+-- an add, one that collects and is held already, a removal and a range
+pub topic-ground-has-members : TopicEqual.Ground (T.fresh T.defaults)
+    (changes 100 1 10 ∷ changes 100 1 70000 ∷ changes 90 8 2000 ∷ T.removeBefore 101 ∷ T.range 0 200 1 ∷ [])
+unfolding T.step T.seqFits T.collects T.removal T.countBelow T.holdsPair T.sameBytes T.within K.keyOf
+topic-ground-has-members = (omega arith, refl, (omega arith, refl, (omega arith, refl, (omega arith, refl, (omega arith, refl, tt)))))

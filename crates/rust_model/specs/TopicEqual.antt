@@ -5,6 +5,7 @@ use mathlib.Core.List.{List, [], _∷_, map}
 use mathlib.Core.Option.{Option, some, none}
 use Prim.Native.Nat.{ℕ, _<_}
 use lib.ListN.{length}
+use Rattle.model.specs.Topic.{defaults}
 use Rattle.model.specs.Topic.{Entry, Limits, Topic, Change, places, limitsFit, Call, update, add, removeBefore, range, Answer, refused, ok, key, heldAlready, found, fresh, step}
 use Rattle.rust_model.specs.Maps.{entry}
 use Rattle.rust_model.specs.Maps as Maps
@@ -97,3 +98,33 @@ pub record TopicsEqual (t : Topic) (c : TopicCache) (cs : List Call) : Type 0 wh
 -- on every sequence of calls on the ground, from a fresh topic cache with any limits within their bounds
 abbrev pub TopicEqualToTheRust : Type 0
 TopicEqualToTheRust = (l : Limits) → limitsFit l ≡ true → (cs : List Call) → Ground (fresh l) cs → TopicsEqual (fresh l) (new (qosOf l)) cs
+
+-- ---- the defaults: "defaults depth 1 and 64"
+
+-- a QoS that names neither history nor resource limits
+abbrev pub emptyQos : QosPolicies
+emptyQos = record { history = none; «max_samples» = none }
+
+-- one that names the history alone, or max_samples alone
+abbrev pub historyAlone : Option ℕ → QosPolicies
+historyAlone d = record { history = some (historyOf d); «max_samples» = none }
+
+abbrev pub samplesAlone : ℕ → QosPolicies
+samplesAlone n = record { history = none; «max_samples» = some n }
+
+-- the limits that the QoS means: those of the model's defaults where it names none
+abbrev pub depthAlone : Option ℕ → Limits
+depthAlone d = record { depth = d; most = defaults .most }
+
+abbrev pub mostAlone : ℕ → Limits
+mostAlone n = record { depth = defaults .depth; most = n }
+
+-- a fresh topic cache with these limits, and a new one of the Rust with this QoS, are equal on every sequence of calls on the ground
+abbrev pub EqualFrom : Limits → QosPolicies → Type 0
+EqualFrom l qos = (cs : List Call) → Ground (fresh l) cs → TopicsEqual (fresh l) (new qos) cs
+
+pub record DefaultsEqualTheRust : Type 0 where
+  pub empty : EqualFrom defaults emptyQos
+  pub update-empty : (c : TopicCache) → «update_keep_limits» c emptyQos ≡ (call c (update defaults)) .cache
+  pub history-alone : (d : Option ℕ) → limitsFit (depthAlone d) ≡ true → EqualFrom (depthAlone d) (historyAlone d)
+  pub samples-alone : (n : ℕ) → limitsFit (mostAlone n) ≡ true → EqualFrom (mostAlone n) (samplesAlone n)
