@@ -2,7 +2,8 @@
 use mathlib.Core.Path.{_≡_, refl, sym, ap, _∙_}
 use mathlib.Core.Bool.{Bool, true, false, cond, _&&_, _||_}
 use mathlib.Core.List.{List, [], _∷_, _++_, append-nil}
-use Prim.Native.Nat.{ℕ, suc, _+_, _*_, _≤_, _<_}
+use Prim.Native.Nat.{ℕ, zero, suc, _+_, _*_, _≤_, _<_}
+use native.Mathlib.Nat.{le-of-suc-le-suc}
 use native.Mathlib.Numerals.{add-one}
 use native.Mathlib.Omega.{arith}
 use borrow.Author.Tests.{le-leb}
@@ -124,6 +125,17 @@ within-append s t (e ∷ a) b = rw (within-cons s t e (a ++ b), within-cons s t 
     go : (q : Bool) → within s t (a ++ b) ≡ within s t a ++ within s t b → cond q (e ∷ within s t (a ++ b)) (within s t (a ++ b)) ≡ cond q (e ∷ within s t a) (within s t a) ++ within s t b
     go true h = ap (λ (r : List Entry). e ∷ r) h
     go false h = h
+
+pub written-within : (s t : ℕ) (es : List Entry) → Written es → Written (within s t es)
+unfolding Written within
+written-within s t [] w = λ i h. absurd (omega (arith, h))
+written-within s t (e ∷ es) w = go (ltb s (e .key) && leb (e .key) t) (written-within s t es (λ j q. w (suc j) (omega arith)))
+  where
+    go : (q : Bool) → ((i : ℕ) → i < length (within s t es) → Writer (getD (within s t es) i none .writer))
+        → (i : ℕ) → i < length (cond q (e ∷ within s t es) (within s t es)) → Writer (getD (cond q (e ∷ within s t es) (within s t es)) i none .writer)
+    go true r zero h = w 0 (omega arith)
+    go true r (suc i) h = r i (le-of-suc-le-suc h)
+    go false r i h = r i h
 
 unfoldable pub Ranged : List ℕ → ℕ → ℕ → ℕ → ℕ → ℕ → Type 0
 Ranged ws held s t n i = (es : List Entry) → Holds es held ws → n + length (within s t (drop i es)) ≡ length (within s t es)

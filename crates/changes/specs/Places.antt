@@ -98,6 +98,15 @@ nothingKept = record { key = 0; change = record { «writer_guid» = replicate 16
 abbrev pub keptOf : Row → Kept
 keptOf x = record { key = x .key; change = record { «writer_guid» = guidOf (x .low) (x .high); «sequence_number» = x .seq; handle = x .handle % 4294967296; «payload_size» = x .size % 4294967296 } }
 
+-- an entry as its row tells it
+abbrev pub entryIn : Row → Entry
+entryIn x = record { key = x .key; writer = guidOf (x .low) (x .high); seq = x .seq; handle = x .handle; size = x .size }
+
+-- n entries read off the results, from place i on
+unfoldable pub entriesIn : ℕ → ℕ → List ℕ → List Entry
+entriesIn zero i out = []
+entriesIn (suc n) i out = entryIn (rowAt out (6 * i)) ∷ entriesIn n (i + 1) out
+
 -- the i-th result, nothing past the last whole one
 unfoldable pub keptAt : List ℕ → ℕ → Kept
 keptAt out i = cond (leb (length out / 6) i) nothingKept (keptOf (rowAt out (6 * i)))

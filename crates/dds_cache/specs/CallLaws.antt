@@ -13,18 +13,21 @@ use Rattle.keys.specs.declared.Last.{Last}
 use Rattle.keys.specs.declared.Last.the-variants as last
 use Rattle.keys.specs.declared.Issued.{Issued}
 use Rattle.keys.specs.declared.Issued.the-variants as issued
-use Rattle.model.specs.Topic.{Topic, Entry, Limits, update, add, removeBefore, range, step, places, limitsFit, raised, wider, removal, collects, collectEvery, collectedFor, adding, holdsPair, within, seqFits}
-use Rattle.changes.specs.Places.{Holds, Written, wordsOf, shownIn, entryOf}
+use Rattle.model.specs.Topic.{Topic, Entry, Limits, update, add, removeBefore, range, refused, found, step, places, limitsFit, raised, wider, removal, collects, collectEvery, collectedFor, adding, holdsPair, within, seqFits}
+use Rattle.changes.specs.Places.{Holds, Written, wordsOf, shownIn, entriesIn, entryOf}
+use Rattle.changes.specs.LookLaws.{written-within}
+use Rattle.changes.specs.ResultLaws.{entries-back}
 use Rattle.changes.specs.declared.CacheChange.{CacheChange}
 use Rattle.dds_cache.specs.declared.KeepLimits.{KeepLimits}
 use Rattle.dds_cache.specs.declared.Limited.{Limited}
 use Rattle.dds_cache.specs.declared.Limited.the-variants as limited
 use Rattle.dds_cache.specs.declared.TopicCache.{TopicCache}
+use Rattle.dds_cache.specs.declared.Created.the-variants as created
 use Rattle.dds_cache.specs.declared.Update.the-variants as up
 use Rattle.dds_cache.specs.declared.Added.the-variants as added
 use Rattle.dds_cache.specs.declared.Outcome.{Outcome}
 use Rattle.dds_cache.specs.declared.Found.the-variants as got
-use Rattle.dds_cache.specs.Header.{limitsOf, limitedOf, newLimits, Head, shown, headOf, Tied, Fit, topicOf, madeOf, clearedIf, Raised, Came, Removed, Shown, addedOf, changeOf, dropsFor, without, behind, inserted, Internal}
+use Rattle.dds_cache.specs.Header.{limitsOf, limitedOf, newLimits, limitsNumber, createdOf, createdNumber, Head, shown, headOf, Tied, Fit, topicOf, madeOf, clearedIf, Creating, Raised, Came, Removed, Shown, addedOf, changeOf, dropsFor, without, behind, inserted, Internal}
 
 -- ---- the header and its topic cache
 
@@ -68,17 +71,22 @@ fits-no l e = go (limitsFit l) e
     go true e = let z : _≡_ {A = ℕ} 0 1 = cc in absurd (omega arith)
     go false e = refl
 
+-- refusal 2 is the model's
+pub limits-number : (c : Topic) (l : Limits) → limitsFit l ≡ false → step c (update l) .answer ≡ refused (limitsNumber l)
+unfolding step
+limits-number c l f = rw f
+
 module _ (l : Limits) (r : Limited) (e : limitedOf r ≡ newLimits l) where
-  pub made-none : r ≡ limited.OutOfBounds → (ws : List ℕ) → (none ≡ madeOf l) × (ws ≡ clearedIf l ws)
+  pub made-none : r ≡ limited.OutOfBounds → (ws : List ℕ) → Creating l created.OutOfBounds ws ws
   unfolding madeOf clearedIf
-  made-none o ws = let f : limitsFit l ≡ false = fits-no l (ap limitedOf (sym o) ∙ e) in (rw f, rw f)
+  made-none o ws = let f : limitsFit l ≡ false = fits-no l (ap limitedOf (sym o) ∙ e) in record { number = rw f; head = rw f; words = rw f }
 
   pub made-some : (m : KeepLimits) → r ≡ limited.Limits m → (k : Last) (ws after : List ℕ) → k ≡ last.Key 0 → after ≡ wordsOf []
-      → (some (shown (record { limits = m; «last_added_instant» = k; held = 0 })) ≡ madeOf l) × (after ≡ clearedIf l ws)
+      → Creating l (created.Cache (record { limits = m; «last_added_instant» = k; held = 0 })) ws after
   unfolding madeOf clearedIf
   made-some m o k ws after p q =
       let f : (limitsFit l ≡ true) × (limitsOf m ≡ raised l) = fits-yes l (limitsOf m) (ap limitedOf (sym o) ∙ e) in
-      (rw (f .0, f .1, p), rw (f .0, q))
+      record { number = rw (f .0); head = rw (f .0, f .1, p); words = rw (f .0, q) }
 
   module _ (c : Topic) (h : TopicCache) (t : shown h ≡ headOf c) where
     pub raised-none : r ≡ limited.OutOfBounds → Raised (step c (update l)) (record { cache = h; answer = up.OutOfBounds })
@@ -221,5 +229,7 @@ module _ (c : Topic) (h : TopicCache) (ws : List ℕ) (f : Fit c) (d : Tied c h 
       → Shown (step c (range s t (length out / 6))) (got.Changes n) out after
   unfolding step
   range-found k after w =
+      let es : List Entry = within s t (c .entries) in
+      let is : after ≡ shownIn es out = w (c .entries) (holds-of c h ws f d) (omega (arith, number)) in
       rw (le-leb (length (within s t (c .entries))) (length out / 6) (omega (arith, number)))
-      (record { answer = ap got.Changes number; results = w (c .entries) (holds-of c h ws f d) (omega (arith, number)) })
+      (record { answer = ap found (ap (λ (k : ℕ). entriesIn k 0 after) number ∙ ap (entriesIn (length es) 0) is ∙ entries-back es out (written-within s t (c .entries) (f .writers))); results = is })

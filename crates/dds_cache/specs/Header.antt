@@ -9,7 +9,7 @@ use lib.ListN.{length}
 use Rattle.keys.specs.declared.Last.{Last}
 use Rattle.keys.specs.declared.Last.the-variants as last
 use Rattle.model.specs.Topic.{Topic, Entry, Limits, Change, Step, Answer, refused, ok, key, heldAlready, found, places, limitsFit, raised, fresh, removal, collectEvery, collectedFor, adding}
-use Rattle.changes.specs.Places.{Holds, Written, wordsOf, shownIn}
+use Rattle.changes.specs.Places.{Holds, Written, wordsOf, shownIn, entriesIn}
 use Rattle.changes.specs.declared.CacheChange.{CacheChange}
 use Rattle.dds_cache.specs.declared.History.{History}
 use Rattle.dds_cache.specs.declared.History.the-variants.{KeepAll, KeepLast}
@@ -41,7 +41,7 @@ limitsOf l = record { depth = depthOf (l .«min_keep_samples»); most = l .«max
 abbrev pub given : History → ℕ → Limits
 given h most = record { depth = depthOf h; most = most }
 
--- the limits asked for, "raised to the depth if smaller", or none: refusal 2
+-- the limits asked for, "raised to the depth if smaller", or none
 unfoldable pub newLimits : Limits → Option Limits
 newLimits l = cond (limitsFit l) (some (raised l)) none
 
@@ -91,6 +91,10 @@ clearedIf l ws = cond (limitsFit l) (wordsOf []) ws
 
 -- ---- the paper's numbers, 0 for no refusal
 
+-- refusal 2: "keep limits outside their bounds"
+abbrev pub limitsNumber : Limits → ℕ
+limitsNumber l = cond (limitsFit l) 0 2
+
 abbrev pub limitedNumber : Limited → ℕ
 limitedNumber (limited.Limits l) = 0
 limitedNumber limited.OutOfBounds = 2
@@ -110,11 +114,20 @@ addedOf added.BadSequenceNumber = refused 1
 addedOf added.NoLaterKey = refused 6
 
 -- the entries found stand in the results
-abbrev pub foundOf : Found → List Entry → Answer
-foundOf (got.Changes n) es = found es
-foundOf got.TooShort es = refused 9
+abbrev pub foundOf : Found → List ℕ → Answer
+foundOf (got.Changes n) out = found (entriesIn n 0 out)
+foundOf got.TooShort out = refused 9
 
 -- ---- what each call answers and leaves
+
+pub record Limiting (l : Limits) (r : Limited) : Type 0 where
+  pub number : limitedNumber r ≡ limitsNumber l
+  pub limits : limitedOf r ≡ newLimits l
+
+pub record Creating (l : Limits) (r : Created) (ws after : List ℕ) : Type 0 where
+  pub number : createdNumber r ≡ limitsNumber l
+  pub head : createdOf r ≡ madeOf l
+  pub words : after ≡ clearedIf l ws
 
 pub record Raised (s : Step) (r : Updated) : Type 0 where
   pub answer : updateOf (r .answer) ≡ s .answer
@@ -128,14 +141,7 @@ pub record Removed (s : Step) (r : TopicCache) (ws : List ℕ) : Type 0 where
   pub answer : ok ≡ s .answer
   pub tied : Tied (s .then) r ws
 
--- how a range's answer is given: the number, and the entries in the results
-abbrev pub toldBy : Answer → Found
-toldBy (found es) = got.Changes (length es)
-toldBy (refused n) = got.TooShort
-toldBy ok = got.TooShort
-toldBy (key k) = got.TooShort
-toldBy heldAlready = got.TooShort
-
+-- "Result places past the answer keep what they held."
 abbrev pub resultsOf : Answer → List ℕ → List ℕ
 resultsOf (found es) out = shownIn es out
 resultsOf (refused n) out = out
@@ -144,7 +150,7 @@ resultsOf (key k) out = out
 resultsOf heldAlready out = out
 
 pub record Shown (s : Step) (r : Found) (before after : List ℕ) : Type 0 where
-  pub answer : r ≡ toldBy (s .answer)
+  pub answer : foundOf r after ≡ s .answer
   pub results : after ≡ resultsOf (s .answer) before
 
 -- ---- an add

@@ -6,7 +6,7 @@ ghost use Prim.Native.Nat.{_+_, _-_, _/_, _≤_, _<_, max, min};
 ghost use lib.ListN.{length, drop};
 ghost use Rattle.model.specs.Topic.{Topic, Entry, Limits, add, update, removeBefore, range, step, inBounds, seqFits, deeper, wider, defaults, mayFor, removal, collectEvery};
 ghost use Rattle.changes.specs.Places.{Holds, wordsOf, entryOf};
-ghost use Rattle.dds_cache.specs.Header.{depthOf, limitsOf, given, limitedOf, newLimits, createdOf, madeOf, clearedIf, shown, headOf, Tied, Fit, changeOf, dropsFor, without, behind, inserted, Raised, Came, Removed, Shown, Internal};
+ghost use Rattle.dds_cache.specs.Header.{depthOf, limitsOf, given, Limiting, Creating, shown, headOf, Tied, Fit, changeOf, dropsFor, without, behind, inserted, Raised, Came, Removed, Shown, Internal};
 use changes::CacheChange;
 use keys::Issued;
 use keys::Last;
@@ -112,7 +112,7 @@ impl KeepLimits {
 
     // If a definite minimum is specified, max_samples is at least that.
     pub fn new(history: History, max_samples: u32) -> Limited
-        ensures { λ r. ⌜ limitedOf r ≡ newLimits (given history «max_samples») ⌝ }
+        ensures { λ r. ⌜ Limiting (given history «max_samples») r ⌝ }
     {
         if !KeepLimits::in_bounds(max_samples) {
             return Limited::OutOfBounds;
@@ -238,7 +238,7 @@ fn may_remove(history: History, must: usize, held: usize) -> usize
 impl TopicCache {
     // Limits outside their bounds leave the words as they are.
     pub fn new(history: History, max_samples: u32, words: &mut [u64; 2304]) -> Created
-        ensures { λ r. ⌜ (createdOf r ≡ madeOf (given history «max_samples»)) × (now (words .exit) ≡ clearedIf (given history «max_samples») (now (words .entry))) ⌝ }
+        ensures { λ r. ⌜ Creating (given history «max_samples») r (now (words .entry)) (now (words .exit)) ⌝ }
     {
         match KeepLimits::new(history, max_samples) {
             Limited::OutOfBounds => Created::OutOfBounds,

@@ -1,9 +1,9 @@
 // sampleinfo.rs: the states of a sample, its view and its instance, the generation counts, the records that hold them, and the lifecycle step.
 ghost use mathlib.Core.Path.{_≡_};
-ghost use Rattle.sampleinfo.specs.States.{sampleBit, viewBit, instanceBit, instanceOfBit, kindOf, handleOf, madeBy, bodyOf, anySample, anyView, anyInstance, notAlive};
+ghost use Rattle.sampleinfo.specs.States.{sampleBit, viewBit, instanceBit, instanceOfBit, kindOf, handleOf, madeBy, bodyOf, bodyNumber, kindNumber, anySample, anyView, anyInstance, notAlive};
 ghost use Prim.Native.Nat.{_<_};
 ghost use Rattle.sampleinfo.specs.Counts.{zero, total, disposedPlus, noWritersPlus, never, accessedAt};
-ghost use Rattle.sampleinfo.specs.Lifecycle.{newInstance, withState, isLast, lifecycleOf, steppedOf, noWritersOf};
+ghost use Rattle.sampleinfo.specs.Lifecycle.{newInstance, withState, isLast, lifecycleOf, lifecycleNumber, steppedOf, steppedNumber, noWritersOf};
 ghost use Rattle.sampleinfo.specs.Samples.{emptySample, markedRead, sampleStateOf, totalOf, receivedOf};
 
 pub enum SampleState {
@@ -191,7 +191,7 @@ impl NotAliveGenerationCounts {
 impl Body {
     // 1 a value, 2 a dispose, anything else is refused with 1
     pub fn of(kind: u8, handle: u32) -> BodyMade
-        ensures { λ r. ⌜ r ≡ bodyOf kind handle ⌝ }
+        ensures { λ r. ⌜ (r ≡ bodyOf kind handle) × (bodyNumber r ≡ kindNumber kind) ⌝ }
     {
         match kind {
             1 => BodyMade::Body(Body::Value(handle)),
@@ -397,7 +397,7 @@ fn after_update(imd: InstanceMetaData, new: InstanceState) -> InstanceMetaData
 
 // The lifecycle step for every other caller, by value.
 pub fn lifecycle(imd: InstanceMetaData, new: InstanceState) -> Stepped
-    ensures { λ r. ⌜ r ≡ lifecycleOf imd new ⌝ }
+    ensures { λ r. ⌜ (r ≡ lifecycleOf imd new) × (steppedNumber r ≡ lifecycleNumber imd new) ⌝ }
 {
     if refuses(imd, new) {
         return Stepped::Refused;

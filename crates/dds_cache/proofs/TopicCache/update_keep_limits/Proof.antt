@@ -16,10 +16,10 @@ raise-requires : tie.Need-raise-requires
 raise-requires c κs = search needs
 
 returns : tie.Need-returns
-returns c = λ m t. raised-none _ _ (c .before .before .new .ensures) m _ t (c .enum-told .given .1)
+returns c = λ m t. raised-none _ _ (c .before .before .new .ensures .limits) m _ t (c .enum-told .given .1)
 
 returns-2 : tie.Need-returns-2
-returns-2 c = λ m t. raised-some _ _ (c .before .before .before .before .before .new .ensures) m (c .before .before .before .before .before .before .args .self) t _ _ (c .before .before .before .other .given .1) (c .raise .ensures)
+returns-2 c = λ m t. raised-some _ _ (c .before .before .before .before .before .new .ensures .limits) m (c .before .before .before .before .before .before .args .self) t _ _ (c .before .before .before .other .given .1) (c .raise .ensures)
 
 pub update-keep-limits-spec : {M : Type 1} → statement M
 update-keep-limits-spec =
