@@ -33,11 +33,6 @@ no-bit : (bit : ℕ) → has 0 bit ≡ false
 no-bit bit = refl
 
 module _ (s : SampleState) (v : ViewState) (i : InstanceState) where
-  -- masks 3, 3, 7 choose every sample
-  pub any-chooses : chosenBy anyCondition s v i ≡ true
-  unfolding chosenBy
-  any-chooses = rw (any-sample s, any-view v, any-instance i)
-
   -- "mask 0 chooses nothing": in any of the three places
   pub no-sample-mask : (b c : ℕ) → chosenBy (condition 0 b c) s v i ≡ false
   unfolding chosenBy
@@ -50,6 +45,11 @@ module _ (s : SampleState) (v : ViewState) (i : InstanceState) where
   pub no-instance-mask : (a b : ℕ) → chosenBy (condition a b 0) s v i ≡ false
   unfolding chosenBy
   no-instance-mask a b = rw (no-bit (instanceBit i), and-false (has b (viewBit v))) (and-false (has a (sampleBit s)))
+
+  -- masks 3, 3, 7 choose every sample
+  pub any-chooses : chosenBy anyCondition s v i ≡ true
+  unfolding chosenBy
+  any-chooses = rw (any-sample s, any-view v, any-instance i)
 
   -- not_read chooses exactly the samples that were not read
   pub not-read-chooses : chosenBy notRead s v i ≡ eqb (sampleBit s) 2
