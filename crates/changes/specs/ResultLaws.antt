@@ -144,7 +144,8 @@ length-entries (suc n) i out = ap suc (length-entries n (i + 1) out)
 entry-back : (e : Entry) → Writer (e .writer) → entryIn (rowOf e) ≡ e
 entry-back e v = ap (λ (w : List ℕ). record { key = e .key; writer = w; seq = e .seq; handle = e .handle; size = e .size }) (guid-back (e .writer) v)
 
-entries-from : (es : List Entry) (i : ℕ) (out : List ℕ) → Written es → ((j : ℕ) → j < length es → rowAt out (6 * (i + j)) ≡ rowOf (getD es j none)) → entriesIn (length es) i out ≡ es
+entries-from : (es : List Entry) (i : ℕ) (out : List ℕ) → Written es → ((j : ℕ) → j < length es → rowAt out (6 * (i + j)) ≡ rowOf (getD es j none))
+    → entriesIn (length es) i out ≡ es
 unfolding entriesIn Written
 entries-from [] i out w r = refl
 entries-from (e ∷ es) i out w r =
@@ -155,4 +156,6 @@ entries-from (e ∷ es) i out w r =
     ∙ ap (λ (l : List Entry). e ∷ l) (entries-from es (i + 1) out (λ j h. w (suc j) (omega arith)) on)
 
 pub entries-back : (es : List Entry) (before : List ℕ) → Written es → entriesIn (length es) 0 (shownIn es before) ≡ es
-entries-back es before w = entries-from es 0 (shownIn es before) w (λ j h. let z : 0 + j ≡ j = omega arith in ap (λ (k : ℕ). rowAt (shownIn es before) (6 * k)) z ∙ row-shown es before j h)
+entries-back es before w =
+    entries-from es 0 (shownIn es before) w
+    (λ j h. let z : 0 + j ≡ j = omega arith in ap (λ (k : ℕ). rowAt (shownIn es before) (6 * k)) z ∙ row-shown es before j h)

@@ -197,7 +197,8 @@ module _ (mode : ℕ) (keep : ℤ) (i : ℕ) (h : Cache) (ws : List ℕ) (t : Li
         }
 
 -- an accepted set-up leaves this table
-pub set-up-table : (u : SetUp) (h : Cache) (r : SetUpOutcome) (ws after : List ℕ) (t then : List Sample) → SetsUp u h r ws after t then → length t ≡ 256 → within u ≡ true → then ≡ emptyTable
+pub set-up-table : (u : SetUp) (h : Cache) (r : SetUpOutcome) (ws after : List ℕ) (t then : List Sample)
+    → SetsUp u h r ws after t then → length t ≡ 256 → within u ≡ true → then ≡ emptyTable
 set-up-table u h r ws after t then f l w = f .accepted l w .1 .table ∙ fresh-table (keepOf u) (u .instances)
 
 -- ---- the no-writers event

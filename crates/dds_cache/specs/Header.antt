@@ -1,14 +1,15 @@
 -- How a topic cache lies in its header and the lent words, and what each call answers and leaves there.
 use mathlib.Core.Path.{_≡_}
-use mathlib.Core.Bool.{cond, _||_}
+use mathlib.Core.Bool.{false, cond, _||_}
+use mathlib.Core.Logic.{_↔_}
 use mathlib.Core.List.{List, []}
 use mathlib.Core.Option.{Option, some, none}
-use Prim.Native.Nat.{ℕ, _+_, _-_, _%_, _≤_}
+use Prim.Native.Nat.{ℕ, _+_, _-_, _/_, _%_, _≤_}
 use lib.Dec.{ltb, leb, eqb}
 use lib.ListN.{length}
 use Rattle.keys.specs.declared.Last.{Last}
 use Rattle.keys.specs.declared.Last.the-variants as last
-use Rattle.model.specs.Topic.{Topic, Entry, Limits, Change, Step, Answer, refused, ok, key, heldAlready, found, places, limitsFit, raised, fresh, removal, collectEvery, collectedFor, adding}
+use Rattle.model.specs.Topic.{Topic, Entry, Limits, Change, Step, Answer, refused, ok, key, heldAlready, found, update, add, removeBefore, range, step, seqFits, places, limitsFit, raised, fresh, removal, collectEvery, collectedFor, adding}
 use Rattle.changes.specs.Places.{Holds, Written, wordsOf, shownIn, entriesIn}
 use Rattle.changes.specs.declared.CacheChange.{CacheChange}
 use Rattle.dds_cache.specs.declared.History.{History}
@@ -120,6 +121,9 @@ foundOf got.TooShort out = refused 9
 
 -- ---- what each call answers and leaves
 
+abbrev pub changeOf : ℕ → CacheChange → Change
+changeOf time x = record { time = time; writer = x .«writer_guid»; seq = x .«sequence_number»; handle = x .handle; size = x .«payload_size» }
+
 pub record Limiting (l : Limits) (r : Limited) : Type 0 where
   pub number : limitedNumber r ≡ limitsNumber l
   pub limits : limitedOf r ≡ newLimits l
@@ -153,10 +157,33 @@ pub record Shown (s : Step) (r : Found) (before after : List ℕ) : Type 0 where
   pub answer : foundOf r after ≡ s .answer
   pub results : after ≡ resultsOf (s .answer) before
 
--- ---- an add
+-- ---- the contracts: on any header and words what depends on the arguments alone, and on those of a topic cache what the model's step says
 
-abbrev pub changeOf : ℕ → CacheChange → Change
-changeOf time x = record { time = time; writer = x .«writer_guid»; seq = x .«sequence_number»; handle = x .handle; size = x .«payload_size» }
+pub record Updates (l : Limits) (h : TopicCache) (r : Updated) : Type 0 where
+  pub out-of-bounds : limitsFit l ≡ false → r ≡ record { cache = h; answer = up.OutOfBounds }
+  pub stepped : (c : Topic) → shown h ≡ headOf c → Raised (step c (update l)) r
+
+pub record Adds (time : ℕ) (x : CacheChange) (h : TopicCache) (ws : List ℕ) (r : Outcome) (after : List ℕ) : Type 0 where
+  -- "sequence number out of range"
+  pub by-1 : (addedOf (r .answer) ≡ refused 1) ↔ (seqFits (x .«sequence_number») ≡ false)
+  -- "Every refusal returns its number only; state and lent buffers stay as found."
+  pub as-found : (n : ℕ) → addedOf (r .answer) ≡ refused n → (r .cache ≡ h) × (after ≡ ws)
+  pub stepped : (c : Topic) → Fit c → Tied c h ws → Came (step c (add (changeOf time x))) r after
+
+pub record Removes (time : ℕ) (h : TopicCache) (ws : List ℕ) (r : TopicCache) (after : List ℕ) : Type 0 where
+  -- a removal is never refused; limits and last key stay, and no more are held
+  pub limits : r .limits ≡ h .limits
+  pub last : r .«last_added_instant» ≡ h .«last_added_instant»
+  pub fewer : r .held ≤ h .held
+  pub stepped : (c : Topic) → Fit c → Tied c h ws → Removed (step c (removeBefore time)) r after
+
+pub record Ranges (start end : ℕ) (h : TopicCache) (ws : List ℕ) (r : Found) (out after : List ℕ) : Type 0 where
+  -- "with start above end, nothing"
+  pub nothing : end ≤ start → (foundOf r after ≡ found []) × (after ≡ out)
+  pub as-found : (n : ℕ) → foundOf r after ≡ refused n → (n ≡ 9) × (after ≡ out)
+  pub stepped : (c : Topic) → Fit c → Tied c h ws → Shown (step c (range start end (length out / 6))) r out after
+
+-- ---- an add
 
 -- how many entries the collection before an add drops, none without one
 unfoldable pub dropsFor : Limits → List Entry → ℕ → ℕ → ℕ
@@ -177,3 +204,11 @@ unfoldable pub Internal : TopicCache → List Entry → List ℕ → ℕ → Cac
 Internal h es ws instant x r after =
     Holds es (h .held) ws → Written es → h .limits .«max_keep_samples» ≤ 256
     → Came (adding (topicOf h es) (collectedFor (topicOf h es) (changeOf instant x)) (changeOf instant x)) r after
+
+-- past the test of the sequence number there is one refusal, and it leaves the header and the words, whatever they are
+abbrev pub Refusing : TopicCache → List ℕ → Outcome → List ℕ → Type 0
+Refusing h ws r after = (n : ℕ) → addedOf (r .answer) ≡ refused n → (n ≡ 6) × (r .cache ≡ h) × (after ≡ ws)
+
+pub record Inner (time : ℕ) (x : CacheChange) (h : TopicCache) (ws : List ℕ) (r : Outcome) (after : List ℕ) : Type 0 where
+  pub refusing : Refusing h ws r after
+  pub came : (es : List Entry) → Internal h es ws time x r after

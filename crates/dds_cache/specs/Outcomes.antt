@@ -6,12 +6,13 @@ use mathlib.Core.Option.{Option, some, none}
 use Prim.Native.Nat.{ℕ}
 use native.Mathlib.Omega.{arith}
 use lib.Dec.{eqb}
-use lib.ListN.{length, drop}
+use lib.ListN.{length, drop, replicate, length-replicate}
 use Rattle.keys.specs.declared.Last.{Last}
 use Rattle.model.specs.Topic.{Topic, Entry, Limits, Call, update, add, removeBefore, range, Step, Answer, refused, ok, key, heldAlready, found, limitsFit, fresh, step}
 use Rattle.model.specs.TopicPromises.{newIn, FromTheOldest}
 use Rattle.model.proofs.Topic.{Fits, fits-step, fits-fresh, topic-promises}
 use Rattle.changes.specs.Places.{Writer, Written, wordsOf, entriesIn}
+use Rattle.changes.specs.Places as places
 use Rattle.changes.specs.ResultLaws.{length-entries}
 use Rattle.changes.specs.WriterLaws.{written-drop, written-more}
 use Rattle.dds_cache.specs.declared.History.{History}
@@ -30,7 +31,7 @@ use Rattle.dds_cache.specs.declared.Added.the-variants as added
 use Rattle.dds_cache.specs.declared.Outcome.{Outcome}
 use Rattle.dds_cache.specs.declared.Found.{Found}
 use Rattle.dds_cache.specs.declared.Found.the-variants as got
-use Rattle.dds_cache.specs.Header.{depthOf, limitsOf, limitedOf, Head, shown, headOf, Tied, Fit, createdOf, madeOf, clearedIf, updateOf, addedOf, foundOf, Creating, Raised, Came, Removed, Shown}
+use Rattle.dds_cache.specs.Header.{depthOf, limitsOf, limitedOf, Head, shown, headOf, Tied, Fit, createdOf, madeOf, clearedIf, updateOf, addedOf, foundOf, topicOf, Creating, Updates, Raised, Came, Removed, Shown}
 
 -- ---- fit
 
@@ -143,6 +144,15 @@ updated-one s a b p q = go (a .cache) (b .cache) (a .answer) (b .answer) (shown-
   where
     go : (h k : TopicCache) (u v : Update) → h ≡ k → u ≡ v → _≡_ {A = Updated} (record { cache = h; answer = u }) (record { cache = k; answer = v })
     go h k u v p q = rw (p, q)
+
+-- of an update on any header at all, since every header is that of some topic cache
+any-header : (h : TopicCache) → shown h ≡ headOf (topicOf h (replicate (h .held) places.none))
+any-header h = ap (λ (n : ℕ). record { limits = limitsOf (h .limits); last = h .«last_added_instant»; held = n }) (sym (length-replicate (h .held) places.none))
+
+pub updates-one : (l : Limits) (h : TopicCache) (a b : Updated) → Updates l h a → Updates l h b → a ≡ b
+updates-one l h a b p q =
+    let c : Topic = topicOf h (replicate (h .held) places.none) in
+    updated-one (step c (update l)) a b (p .stepped c (any-header h)) (q .stepped c (any-header h))
 
 pub added-one : (s : Step) (a b : Outcome) (ws vs : List ℕ) → Came s a ws → Came s b vs → (a ≡ b) × (ws ≡ vs)
 added-one s a b ws vs p q =

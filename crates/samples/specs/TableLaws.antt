@@ -52,7 +52,8 @@ fill-end t u i e h k l =
     e ∙ rw (q, drop-length t) (append-nil (replicate (length t) emptySample))
 
 -- "256 copies of the empty record"
-pub fill-256 : (t u : List Sample) (i : ℕ) → u ≡ replicate i emptySample ++ drop i t → i ≤ length u → length u ≤ i → length u ≡ length t → length t ≡ 256 → u ≡ emptyTable
+pub fill-256 : (t u : List Sample) (i : ℕ) → u ≡ replicate i emptySample ++ drop i t → i ≤ length u → length u ≤ i → length u ≡ length t
+    → length t ≡ 256 → u ≡ emptyTable
 fill-256 t u i e h k l n = fill-end t u i e h k l ∙ ap (λ (j : ℕ). replicate j emptySample) n
 
 -- ---- three numbers of each record

@@ -1,5 +1,5 @@
 use borrow.Author.Needs.{needs}
-use Rattle.dds_cache.specs.CallLaws.{add-bad, add-good}
+use Rattle.dds_cache.specs.CallLaws.{adds-bad, adds-good}
 use Rattle.dds_cache.proofs.TopicCache.add_change.Statement.{statement}
 use Rattle.dds_cache.proofs.TopicCache.add_change.Tie as tie
 
@@ -10,10 +10,10 @@ add-change-internal-requires : tie.Need-add-change-internal-requires
 add-change-internal-requires c κs = search needs
 
 returns : tie.Need-returns
-returns c = λ m f d. add-good m _ _ _ _ f d _ (c .before .before .before .sequence-fits .ensures) (c .before .before .if1 .taken) _ _ (c .add-change-internal .ensures)
+returns c = adds-good _ _ _ _ _ (c .before .before .before .sequence-fits .ensures) (c .before .before .if1 .taken) _ _ (c .add-change-internal .ensures)
 
 returns-2 : tie.Need-returns-2
-returns-2 c = λ m f d. add-bad m _ _ _ _ f d _ (c .before .sequence-fits .ensures) (c .if1 .left)
+returns-2 c = adds-bad _ _ _ _ _ (c .before .sequence-fits .ensures) (c .if1 .left)
 
 pub add-change-spec : {M : Type 1} → statement M
 add-change-spec =
