@@ -12,9 +12,9 @@ use Rattle.lists.specs.Blocks.{flat, Even, even-map, flat-get, get-map}
 use Rattle.model.specs.Topic.{Entry}
 use Rattle.changes.specs.declared.Row.{Row}
 use Rattle.changes.specs.declared.Kept.{Kept}
-use Rattle.changes.specs.Places.{none, pack, half, Bytes, Writer, Written, lineOf, rowOf, rowAt, shownIn, unpack, withHalf, guidOf, entryIn, entriesIn, keptOf, keptAt, nothingKept}
+use Rattle.changes.specs.Places.{none, pack, half, Bytes, Writer, Written, Holds, lineOf, rowOf, rowAt, shownIn, unpack, withHalf, guidOf, entryIn, entriesIn, keptOf, keptAt, nothingKept}
 use Rattle.changes.specs.WriterLaws.{bytes-take, bytes-drop}
-use Rattle.changes.specs.WordLaws.{flat-long}
+use Rattle.changes.specs.WordLaws.{flat-long, row-at}
 
 -- ---- the loop that writes eight bytes
 
@@ -159,3 +159,9 @@ pub entries-back : (es : List Entry) (before : List ℕ) → Written es → entr
 entries-back es before w =
     entries-from es 0 (shownIn es before) w
     (λ j h. let z : 0 + j ≡ j = omega arith in ap (λ (k : ℕ). rowAt (shownIn es before) (6 * k)) z ∙ row-shown es before j h)
+
+-- so are those that a cache holds, off its own words
+pub entries-held : {es : List Entry} {held : ℕ} {ws : List ℕ} → Holds es held ws → Written es → entriesIn held 0 ws ≡ es
+entries-held {es} {held} {ws} h w =
+    ap (λ (n : ℕ). entriesIn n 0 ws) (h .number)
+    ∙ entries-from es 0 ws w (λ j l. let z : 0 + j ≡ j = omega arith in ap (λ (k : ℕ). rowAt ws (6 * k)) z ∙ row-at h j (omega (arith, h .number)))

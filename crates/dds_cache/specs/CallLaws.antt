@@ -14,7 +14,7 @@ use Rattle.keys.specs.declared.Last.the-variants as last
 use Rattle.keys.specs.declared.Issued.{Issued}
 use Rattle.keys.specs.declared.Issued.the-variants as issued
 use Rattle.model.specs.Topic.{Topic, Entry, Limits, update, add, removeBefore, range, refused, key, found, step, places, limitsFit, raised, wider, removal, collects, collectEvery, collectedFor, adding, holdsPair, within, seqFits}
-use Rattle.changes.specs.Places.{Holds, Written, wordsOf, shownIn, entriesIn, entryOf, Ranging, Copying}
+use Rattle.changes.specs.Places.{Holds, Writer, Written, wordsOf, shownIn, entriesIn, entryOf, Ranging, Copying}
 use Rattle.changes.specs.LookLaws.{written-within}
 use Rattle.changes.specs.ResultLaws.{entries-back}
 use Rattle.changes.specs.declared.CacheChange.{CacheChange}
@@ -247,9 +247,10 @@ module _ (h : TopicCache) (ws : List ℕ) where
   refusing-key k r after a n e = let q : key k ≡ refused n = ap addedOf (sym a) ∙ e in let z : _≡_ {A = ℕ} 0 1 = cc in absurd (omega arith)
 
 -- on any header and words
-module _ (h : TopicCache) (ws : List ℕ) (t : ℕ) (x : CacheChange) (b : Bool) (e : b ≡ seqFits (x .«sequence_number»)) where
+module _ (h : TopicCache) (ws : List ℕ) (t : ℕ) (x : CacheChange) (v : Writer (x .«writer_guid»)) (b : Bool) (e : b ≡ seqFits (x .«sequence_number»)) where
   pub adds-bad : b ≡ false → Adds t x h ws (record { cache = h; answer = added.BadSequenceNumber }) ws
   adds-bad q = record {
+    writer = v;
     by-1 = (λ a. sym e ∙ q, λ f. refl);
     as-found = λ n a. (refl, refl);
     stepped = λ c f d. add-bad c h ws t x f d b e q;
@@ -257,6 +258,7 @@ module _ (h : TopicCache) (ws : List ℕ) (t : ℕ) (x : CacheChange) (b : Bool)
 
   pub adds-good : b ≡ true → (r : Outcome) (after : List ℕ) → Inner t x h ws r after → Adds t x h ws r after
   adds-good q r after i = record {
+    writer = v;
     by-1 = (λ a. absurd (omega (arith, i .refusing 1 a .0)), λ f. absurd (true≢false (sym q ∙ e ∙ f)));
     as-found = λ n a. (i .refusing n a .1, i .refusing n a .2);
     stepped = λ c f d. add-good c h ws t x f d b e q r after (i .came);

@@ -10,7 +10,7 @@ use lib.ListN.{length}
 use Rattle.keys.specs.declared.Last.{Last}
 use Rattle.keys.specs.declared.Last.the-variants as last
 use Rattle.model.specs.Topic.{Topic, Entry, Limits, Change, Step, Answer, refused, ok, key, heldAlready, found, update, add, removeBefore, range, step, seqFits, places, limitsFit, raised, fresh, removal, collectEvery, collectedFor, adding}
-use Rattle.changes.specs.Places.{Holds, Written, wordsOf, shownIn, entriesIn}
+use Rattle.changes.specs.Places.{Holds, Writer, Written, wordsOf, shownIn, entriesIn}
 use Rattle.changes.specs.declared.CacheChange.{CacheChange}
 use Rattle.dds_cache.specs.declared.History.{History}
 use Rattle.dds_cache.specs.declared.History.the-variants.{KeepAll, KeepLast}
@@ -164,6 +164,8 @@ pub record Updates (l : Limits) (h : TopicCache) (r : Updated) : Type 0 where
   pub stepped : (c : Topic) → shown h ≡ headOf c → Raised (step c (update l)) r
 
 pub record Adds (time : ℕ) (x : CacheChange) (h : TopicCache) (ws : List ℕ) (r : Outcome) (after : List ℕ) : Type 0 where
+  -- "writer 16 bytes", as its type has it: so what is held stays `Fit`
+  pub writer : Writer (x .«writer_guid»)
   -- "sequence number out of range"
   pub by-1 : (addedOf (r .answer) ≡ refused 1) ↔ (seqFits (x .«sequence_number») ≡ false)
   -- "Every refusal returns its number only; state and lent buffers stay as found."
