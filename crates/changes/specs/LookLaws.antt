@@ -1,11 +1,12 @@
 -- The loops over the held places: what each carries, and its start, turn and end.
 use mathlib.Core.Path.{_≡_, refl, sym, ap, _∙_}
-use mathlib.Core.Bool.{Bool, true, false, cond, _&&_, _||_}
+use mathlib.Core.Bool.{Bool, true, false, cond, _&&_, _||_, true≢false}
 use mathlib.Core.List.{List, [], _∷_, _++_, append-nil}
-use Prim.Native.Nat.{ℕ, suc, _+_, _*_, _≤_, _<_}
+use Prim.Native.Nat.{ℕ, zero, suc, _+_, _*_, _≤_, _<_}
+use native.Mathlib.Nat.{le-of-suc-le-suc}
 use native.Mathlib.Numerals.{add-one}
 use native.Mathlib.Omega.{arith}
-use borrow.Author.Tests.{le-leb}
+use borrow.Author.Tests.{le-leb, ltb-true, leb-true}
 use lib.Dec.{ltb, leb, eqb, lit<}
 use lib.ListN.{length, getD, take, drop, length-append, length-set, drop-of-length-le}
 use lib.Seq.{drop-cons, take-suc, split-at, take-all}
@@ -125,8 +126,34 @@ within-append s t (e ∷ a) b = rw (within-cons s t e (a ++ b), within-cons s t 
     go true h = ap (λ (r : List Entry). e ∷ r) h
     go false h = h
 
+pub written-within : (s t : ℕ) (es : List Entry) → Written es → Written (within s t es)
+unfolding Written within
+written-within s t [] w = λ i h. absurd (omega (arith, h))
+written-within s t (e ∷ es) w = go (ltb s (e .key) && leb (e .key) t) (written-within s t es (λ j q. w (suc j) (omega arith)))
+  where
+    go : (q : Bool) → ((i : ℕ) → i < length (within s t es) → Writer (getD (within s t es) i none .writer))
+        → (i : ℕ) → i < length (cond q (e ∷ within s t es) (within s t es)) → Writer (getD (cond q (e ∷ within s t es) (within s t es)) i none .writer)
+    go true r zero h = w 0 (omega arith)
+    go true r (suc i) h = r i (le-of-suc-le-suc h)
+    go false r i h = r i h
+
 unfoldable pub Ranged : List ℕ → ℕ → ℕ → ℕ → ℕ → ℕ → Type 0
 Ranged ws held s t n i = (es : List Entry) → Holds es held ws → n + length (within s t (drop i es)) ≡ length (within s t es)
+
+-- "with start above end, nothing", whatever the words hold
+nothing-between : (s t k : ℕ) → t ≤ s → (ltb s k && leb k t) ≡ false
+nothing-between s t k h = go (ltb s k) (leb k t) refl refl
+  where
+    go : (a b : Bool) → ltb s k ≡ a → leb k t ≡ b → (a && b) ≡ false
+    go false b p q = refl
+    go true false p q = refl
+    go true true p q = absurd (omega (arith, ltb-true s k p, leb-true k t q))
+
+pub none-counted : (s t k n b : ℕ) → (t ≤ s → n ≡ 0) → b ≡ cond (ltb s k && leb k t) 1 0 → t ≤ s → n + b ≡ 0
+none-counted s t k n b z e h = rw (z h, e, nothing-between s t k h)
+
+pub none-copied : {A : Type 0} (s t k : ℕ) (b : Bool) → b ≡ (ltb s k && leb k t) → b ≡ true → t ≤ s → A
+none-copied s t k b e q h = let z : true ≡ false = sym q ∙ e ∙ nothing-between s t k h in absurd (true≢false z)
 
 long-cond : (q : Bool) (e : Entry) (r : List Entry) → length (cond q (e ∷ r) r) ≡ cond q 1 0 + length r
 long-cond true e r = omega arith

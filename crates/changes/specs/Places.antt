@@ -6,7 +6,7 @@ use Prim.Native.Nat.{ℕ, zero, suc, _+_, _-_, _*_, _/_, _%_, _≤_, _<_}
 use lib.ListN.{length, getD, take, drop, set, replicate}
 use lib.Dec.{leb}
 use Rattle.lists.specs.Blocks.{flat, filled}
-use Rattle.model.specs.Topic.{Entry}
+use Rattle.model.specs.Topic.{Entry, within}
 use Rattle.changes.specs.declared.Row.{Row}
 use Rattle.changes.specs.declared.CacheChange.{CacheChange}
 use Rattle.changes.specs.declared.Kept.{Kept}
@@ -60,6 +60,16 @@ pub record Holds (es : List Entry) (held : ℕ) (ws : List ℕ) : Type 0 where
 unfoldable pub shownIn : List Entry → List ℕ → List ℕ
 shownIn es out = flat (map lineOf es) ++ drop (6 * length es) out
 
+-- the held keys above start and up to end, counted; "with start above end, nothing", whatever the words hold
+pub record Ranging (ws : List ℕ) (held start end n : ℕ) : Type 0 where
+  pub counted : (es : List Entry) → Holds es held ws → n ≡ length (within start end es)
+  pub nothing : end ≤ start → n ≡ 0
+
+-- their entries, copied to the results
+pub record Copying (ws : List ℕ) (held start end : ℕ) (out after : List ℕ) : Type 0 where
+  pub copied : (es : List Entry) → Holds es held ws → 6 * length (within start end es) ≤ length out → after ≡ shownIn (within start end es) out
+  pub nothing : end ≤ start → after ≡ out
+
 -- ---- what the stores leave
 
 -- `size` words from `by` on, moved to the front
@@ -97,6 +107,15 @@ nothingKept = record { key = 0; change = record { «writer_guid» = replicate 16
 
 abbrev pub keptOf : Row → Kept
 keptOf x = record { key = x .key; change = record { «writer_guid» = guidOf (x .low) (x .high); «sequence_number» = x .seq; handle = x .handle % 4294967296; «payload_size» = x .size % 4294967296 } }
+
+-- an entry as its row tells it
+abbrev pub entryIn : Row → Entry
+entryIn x = record { key = x .key; writer = guidOf (x .low) (x .high); seq = x .seq; handle = x .handle; size = x .size }
+
+-- n entries read off the results, from place i on
+unfoldable pub entriesIn : ℕ → ℕ → List ℕ → List Entry
+entriesIn zero i out = []
+entriesIn (suc n) i out = entryIn (rowAt out (6 * i)) ∷ entriesIn n (i + 1) out
 
 -- the i-th result, nothing past the last whole one
 unfoldable pub keptAt : List ℕ → ℕ → Kept

@@ -10,10 +10,11 @@ use lib.ListN.{length, getD, take, drop, set, length-set, take-append-drop, leng
 use lib.Seq.{take-suc-set, drop-set-lt, take-at, take-all}
 use Rattle.lists.specs.Blocks.{flat, Even, even-map, flat-get, get-map}
 use Rattle.model.specs.Topic.{Entry}
+use Rattle.changes.specs.declared.Row.{Row}
 use Rattle.changes.specs.declared.Kept.{Kept}
-use Rattle.changes.specs.Places.{none, pack, half, Bytes, Writer, lineOf, rowOf, rowAt, shownIn, unpack, withHalf, guidOf, keptOf, keptAt, nothingKept}
+use Rattle.changes.specs.Places.{none, pack, half, Bytes, Writer, Written, Holds, lineOf, rowOf, rowAt, shownIn, unpack, withHalf, guidOf, entryIn, entriesIn, keptOf, keptAt, nothingKept}
 use Rattle.changes.specs.WriterLaws.{bytes-take, bytes-drop}
-use Rattle.changes.specs.WordLaws.{flat-long}
+use Rattle.changes.specs.WordLaws.{flat-long, row-at}
 
 -- ---- the loop that writes eight bytes
 
@@ -133,3 +134,34 @@ module _ (es : List Entry) (before : List ℕ) (i : ℕ) (m : i < length es) whe
     where
       whole : (n : ℕ) → n < 4294967296 → n % 4294967296 ≡ n
       whole n h = omega arith
+
+-- the entries found are read off the results again
+pub length-entries : (n i : ℕ) (out : List ℕ) → length (entriesIn n i out) ≡ n
+unfolding entriesIn
+length-entries zero i out = refl
+length-entries (suc n) i out = ap suc (length-entries n (i + 1) out)
+
+entry-back : (e : Entry) → Writer (e .writer) → entryIn (rowOf e) ≡ e
+entry-back e v = ap (λ (w : List ℕ). record { key = e .key; writer = w; seq = e .seq; handle = e .handle; size = e .size }) (guid-back (e .writer) v)
+
+entries-from : (es : List Entry) (i : ℕ) (out : List ℕ) → Written es → ((j : ℕ) → j < length es → rowAt out (6 * (i + j)) ≡ rowOf (getD es j none))
+    → entriesIn (length es) i out ≡ es
+unfolding entriesIn Written
+entries-from [] i out w r = refl
+entries-from (e ∷ es) i out w r =
+    let z : rowAt out (6 * i) ≡ rowOf e = ap (λ (k : ℕ). rowAt out (6 * k)) (sym (add-zero i)) ∙ r 0 (omega arith) in
+    let on : (j : ℕ) → j < length es → rowAt out (6 * (i + 1 + j)) ≡ rowOf (getD es j none) =
+    λ j h. (let s : i + 1 + j ≡ i + suc j = omega arith in ap (λ (k : ℕ). rowAt out (6 * k)) s ∙ r (suc j) (omega arith)) in
+    ap (λ (x : Entry). x ∷ entriesIn (length es) (i + 1) out) (ap entryIn z ∙ entry-back e (w 0 (omega arith)))
+    ∙ ap (λ (l : List Entry). e ∷ l) (entries-from es (i + 1) out (λ j h. w (suc j) (omega arith)) on)
+
+pub entries-back : (es : List Entry) (before : List ℕ) → Written es → entriesIn (length es) 0 (shownIn es before) ≡ es
+entries-back es before w =
+    entries-from es 0 (shownIn es before) w
+    (λ j h. let z : 0 + j ≡ j = omega arith in ap (λ (k : ℕ). rowAt (shownIn es before) (6 * k)) z ∙ row-shown es before j h)
+
+-- so are those that a cache holds, off its own words
+pub entries-held : {es : List Entry} {held : ℕ} {ws : List ℕ} → Holds es held ws → Written es → entriesIn held 0 ws ≡ es
+entries-held {es} {held} {ws} h w =
+    ap (λ (n : ℕ). entriesIn n 0 ws) (h .number)
+    ∙ entries-from es 0 ws w (λ j l. let z : 0 + j ≡ j = omega arith in ap (λ (k : ℕ). rowAt ws (6 * k)) z ∙ row-at h j (omega (arith, h .number)))

@@ -6,8 +6,8 @@ ghost use mathlib.Core.List.{List, [], _∷_, _++_};
 ghost use Prim.Native.Nat.{_+_, _*_, _%_, _<_, _≤_};
 ghost use lib.Dec.{ltb, leb, eqb};
 ghost use lib.ListN.{length, drop};
-ghost use Rattle.model.specs.Topic.{Entry, countBelow, holdsPair, within};
-ghost use Rattle.changes.specs.Places.{half, Writer, Written, Holds, wordsOf, entryOf, rowOf, putRow, movedDown, cleared, copiedRow, shownIn, withHalf, guidOf, nothingKept, keptAt};
+ghost use Rattle.model.specs.Topic.{Entry, countBelow, holdsPair};
+ghost use Rattle.changes.specs.Places.{half, Writer, Written, Holds, wordsOf, entryOf, rowOf, putRow, movedDown, cleared, copiedRow, Ranging, Copying, withHalf, guidOf, nothingKept, keptAt};
 
 // A change as it comes in. Its key is given by the cache.
 pub struct CacheChange {
@@ -222,7 +222,7 @@ fn one_in_range(key: u64, start: u64, end: u64) -> usize
 
 // How many held keys are above start and up to end.
 pub fn count_in_range(words: &[u64; 2304], held: usize, start: u64, end: u64) -> usize
-    ensures { λ r. ⌜ ((es : List Entry) → Holds es held (now (words .entry)) → r ≡ length (within start end es)) ⌝ }
+    ensures { λ r. ⌜ Ranging (now (words .entry)) held start end r ⌝ }
 {
     let mut n = 0;
     let mut i = 0;
@@ -255,7 +255,7 @@ fn copy_row(words: &[u64; 2304], i: usize, out: &mut [u64], n: usize)
 
 // The held changes with keys above start and up to end, in key order, to the results.
 pub fn copy_in_range(words: &[u64; 2304], held: usize, start: u64, end: u64, out: &mut [u64])
-    ensures { λ r. ⌜ ((es : List Entry) → Holds es held (now (words .entry)) → 6 * length (within start end es) ≤ length (now (out .entry)) → now (out .exit) ≡ shownIn (within start end es) (now (out .entry))) ⌝ }
+    ensures { λ r. ⌜ Copying (now (words .entry)) held start end (now (out .entry)) (now (out .exit)) ⌝ }
 {
     let mut n = 0;
     let mut i = 0;

@@ -13,8 +13,7 @@ use lib.Signed.{ltZ, nonNeg}
 use mir.Syntax.{w32, w64}
 use mir.Val.{Fits, SFits, toZ, ofZ}
 use mir.Facts.{toZ-ofZ}
-use lib.ListN.{length, replicate}
-use Rattle.sampleinfo.specs.Samples.{emptySample}
+use lib.ListN.{length}
 use Rattle.sampleinfo.specs.declared.Sample.{Sample}
 use Rattle.keys.specs.declared.Last.the-variants as last
 use Rattle.model.specs.Model as M
@@ -29,6 +28,7 @@ use Rattle.refine.specs.Good.{Good}
 use Rattle.refine.specs.Layout.{storeOf, tableOf, slotsOf, tabFrom, lookUp, entriesFrom, freeOf, keyOf, ownerOf, sampleOf}
 use Rattle.refine.specs.Dying.{codeOf, dying-is, table-dying, next-is}
 use Rattle.memory.specs.Lies.{Lies, tied}
+use Rattle.samples.specs.Table.{emptyTable}
 use Rattle.lists.specs.Blocks.{putAt, length-put-in}
 use Rattle.sampleinfo.specs.Lifecycle.{noWritersOf}
 use Rattle.lookup.specs.Lookup.{nextOf}
@@ -44,7 +44,8 @@ fresh-store : (k : Option ℕ) (room : ℕ) → storeOf (fresh k room) ≡ fresh
 unfolding storeOf slotsOf tabFrom lookUp entriesFrom lives
 fresh-store k room = refl
 
-fresh-table : (k : Option ℕ) (room : ℕ) → tableOf (fresh k room) ≡ replicate 256 emptySample
+-- "starts as 256 copies of the empty record"
+pub fresh-table : (k : Option ℕ) (room : ℕ) → tableOf (fresh k room) ≡ emptyTable
 unfolding tableOf slotsOf tabFrom lookUp entriesFrom
 fresh-table k room = refl
 
@@ -176,7 +177,7 @@ module _ (mode : ℕ) (keep : ℤ) (i : ℕ) (h : Cache) (ws : List ℕ) (t : Li
       no-table = λ l. absurd (l long);
     }
 
-    pub set-done : (after : List ℕ) (u : List Sample) → not b ≡ false → u ≡ replicate (length t) emptySample
+    pub set-done : (after : List ℕ) (u : List Sample) → not b ≡ false → (length t ≡ 256 → u ≡ emptyTable)
         → ((k : Option ℕ) → keptIn mode depth ≡ F.depthOf k → Begun (freshStore k i) r after) → SetsUp (setUpOf mode keep i) h r ws after t u
     set-done after u n f m =
         let w : b ≡ true = not-false b n in
@@ -188,12 +189,17 @@ module _ (mode : ℕ) (keep : ℤ) (i : ℕ) (h : Cache) (ws : List ℕ) (t : Li
             record {
               head = m k q .head ∙ ap headOf (sym (fresh-store k i));
               words = m k q .words ∙ ap indexOf (sym (fresh-store k i));
-              table = f ∙ ap (λ (j : ℕ). replicate j emptySample) long ∙ sym (fresh-table k i);
+              table = f long ∙ sym (fresh-table k i);
             },
           );
           out-of-bounds = λ l v. absurd (true≢false (sym w ∙ is-within ∙ v));
           no-table = λ l. absurd (l long);
         }
+
+-- an accepted set-up leaves this table
+pub set-up-table : (u : SetUp) (h : Cache) (r : SetUpOutcome) (ws after : List ℕ) (t then : List Sample)
+    → SetsUp u h r ws after t then → length t ≡ 256 → within u ≡ true → then ≡ emptyTable
+set-up-table u h r ws after t then f l w = f .accepted l w .1 .table ∙ fresh-table (keepOf u) (u .instances)
 
 -- ---- the no-writers event
 

@@ -1,6 +1,6 @@
 -- The calls: what each return answers and leaves is what the model's step answers and leaves.
 use mathlib.Core.Path.{_≡_, refl, sym, ap, _∙_, subst}
-use mathlib.Core.Bool.{Bool, true, false, cond, _||_}
+use mathlib.Core.Bool.{Bool, true, false, cond, _||_, true≢false}
 use mathlib.Core.List.{List, [], _∷_, _++_}
 use mathlib.Core.Option.{some, none}
 use Prim.Native.Nat.{ℕ, _-_, _*_, _/_, _%_, _≤_, _<_}
@@ -13,18 +13,21 @@ use Rattle.keys.specs.declared.Last.{Last}
 use Rattle.keys.specs.declared.Last.the-variants as last
 use Rattle.keys.specs.declared.Issued.{Issued}
 use Rattle.keys.specs.declared.Issued.the-variants as issued
-use Rattle.model.specs.Topic.{Topic, Entry, Limits, update, add, removeBefore, range, step, places, limitsFit, raised, wider, removal, collects, collectEvery, collectedFor, adding, holdsPair, within, seqFits}
-use Rattle.changes.specs.Places.{Holds, Written, wordsOf, shownIn, entryOf}
+use Rattle.model.specs.Topic.{Topic, Entry, Limits, update, add, removeBefore, range, refused, key, found, step, places, limitsFit, raised, wider, removal, collects, collectEvery, collectedFor, adding, holdsPair, within, seqFits}
+use Rattle.changes.specs.Places.{Holds, Writer, Written, wordsOf, shownIn, entriesIn, entryOf, Ranging, Copying}
+use Rattle.changes.specs.LookLaws.{written-within}
+use Rattle.changes.specs.ResultLaws.{entries-back}
 use Rattle.changes.specs.declared.CacheChange.{CacheChange}
 use Rattle.dds_cache.specs.declared.KeepLimits.{KeepLimits}
 use Rattle.dds_cache.specs.declared.Limited.{Limited}
 use Rattle.dds_cache.specs.declared.Limited.the-variants as limited
 use Rattle.dds_cache.specs.declared.TopicCache.{TopicCache}
+use Rattle.dds_cache.specs.declared.Created.the-variants as created
 use Rattle.dds_cache.specs.declared.Update.the-variants as up
 use Rattle.dds_cache.specs.declared.Added.the-variants as added
 use Rattle.dds_cache.specs.declared.Outcome.{Outcome}
 use Rattle.dds_cache.specs.declared.Found.the-variants as got
-use Rattle.dds_cache.specs.Header.{limitsOf, limitedOf, newLimits, Head, shown, headOf, Tied, Fit, topicOf, madeOf, clearedIf, Raised, Came, Removed, Shown, addedOf, changeOf, dropsFor, without, behind, inserted, Internal}
+use Rattle.dds_cache.specs.Header.{limitsOf, limitedOf, newLimits, limitsNumber, createdOf, createdNumber, Head, shown, headOf, Tied, Fit, topicOf, madeOf, clearedIf, Creating, Raised, Came, Removed, Shown, Updates, Adds, Removes, Ranges, Refusing, Inner, addedOf, foundOf, changeOf, dropsFor, without, behind, inserted, Internal}
 
 -- ---- the header and its topic cache
 
@@ -68,17 +71,22 @@ fits-no l e = go (limitsFit l) e
     go true e = let z : _≡_ {A = ℕ} 0 1 = cc in absurd (omega arith)
     go false e = refl
 
+-- refusal 2 is the model's
+pub limits-number : (c : Topic) (l : Limits) → limitsFit l ≡ false → step c (update l) .answer ≡ refused (limitsNumber l)
+unfolding step
+limits-number c l f = rw f
+
 module _ (l : Limits) (r : Limited) (e : limitedOf r ≡ newLimits l) where
-  pub made-none : r ≡ limited.OutOfBounds → (ws : List ℕ) → (none ≡ madeOf l) × (ws ≡ clearedIf l ws)
+  pub made-none : r ≡ limited.OutOfBounds → (ws : List ℕ) → Creating l created.OutOfBounds ws ws
   unfolding madeOf clearedIf
-  made-none o ws = let f : limitsFit l ≡ false = fits-no l (ap limitedOf (sym o) ∙ e) in (rw f, rw f)
+  made-none o ws = let f : limitsFit l ≡ false = fits-no l (ap limitedOf (sym o) ∙ e) in record { number = rw f; head = rw f; words = rw f }
 
   pub made-some : (m : KeepLimits) → r ≡ limited.Limits m → (k : Last) (ws after : List ℕ) → k ≡ last.Key 0 → after ≡ wordsOf []
-      → (some (shown (record { limits = m; «last_added_instant» = k; held = 0 })) ≡ madeOf l) × (after ≡ clearedIf l ws)
+      → Creating l (created.Cache (record { limits = m; «last_added_instant» = k; held = 0 })) ws after
   unfolding madeOf clearedIf
   made-some m o k ws after p q =
       let f : (limitsFit l ≡ true) × (limitsOf m ≡ raised l) = fits-yes l (limitsOf m) (ap limitedOf (sym o) ∙ e) in
-      (rw (f .0, f .1, p), rw (f .0, q))
+      record { number = rw (f .0); head = rw (f .0, f .1, p); words = rw (f .0, q) }
 
   module _ (c : Topic) (h : TopicCache) (t : shown h ≡ headOf c) where
     pub raised-none : r ≡ limited.OutOfBounds → Raised (step c (update l)) (record { cache = h; answer = up.OutOfBounds })
@@ -95,6 +103,17 @@ module _ (l : Limits) (r : Limited) (e : limitedOf r ≡ newLimits l) where
         go : (k l n m q : Limits) (j i : Last) (a b : ℕ) → k ≡ wider l m → l ≡ n → m ≡ q → j ≡ i → a ≡ b
             → _≡_ {A = Head} (record { limits = k; last = j; held = a }) (record { limits = wider n q; last = i; held = b })
         go k l n m q j i a b u v w x y = rw (u, v, w, x, y)
+
+  -- on any header
+  pub updates-none : r ≡ limited.OutOfBounds → (h : TopicCache) → Updates l h (record { cache = h; answer = up.OutOfBounds })
+  updates-none o h = record { out-of-bounds = λ f. refl; stepped = λ c t. raised-none c h t o }
+
+  pub updates-some : (m k : KeepLimits) → r ≡ limited.Limits m → (h : TopicCache) → limitsOf k ≡ wider (limitsOf (h .limits)) (limitsOf m)
+      → Updates l h (record { cache = record { limits = k; «last_added_instant» = h .«last_added_instant»; held = h .held }; answer = up.Raised })
+  updates-some m k o h w = record {
+    out-of-bounds = λ f. absurd (true≢false (sym (fits-yes l (limitsOf m) (ap limitedOf (sym o) ∙ e) .0) ∙ f));
+    stepped = λ c t. raised-some c h t m k o w;
+  }
 
 -- ---- removal
 
@@ -120,6 +139,16 @@ removed-before c h ws t n r after f d count q w =
         words = w (c .entries) o ∙ ap (λ (k : ℕ). wordsOf (drop k (c .entries))) m;
       };
     }
+
+pub removes : (h : TopicCache) (ws : List ℕ) (t n : ℕ) (r : TopicCache) (after : List ℕ)
+    → ((es : List Entry) → Holds es (h .held) ws → n ≡ removal (limitsOf (h .limits)) t es) → r ≡ without h n
+    → ((es : List Entry) → Holds es (h .held) ws → after ≡ wordsOf (drop n es)) → Removes t h ws r after
+removes h ws t n r after count q w = record {
+  limits = ap (λ (k : TopicCache). k .limits) q;
+  last = ap (λ (k : TopicCache). k .«last_added_instant») q;
+  fewer = omega (arith, ap (λ (k : TopicCache). k .held) q);
+  stepped = λ c f d. removed-before c h ws t n r after f d count q w;
+}
 
 -- ---- adding
 
@@ -206,6 +235,35 @@ module _ (c : Topic) (h : TopicCache) (ws : List ℕ) (t : ℕ) (x : CacheChange
       rw (← e, q)
       (subst (λ (y : Topic). Came (adding y (collectedFor y (changeOf t x)) (changeOf t x)) r after) (topic-is c h (d .head)) (i (c .entries) (holds-of c h ws f d) (f .writers) (most-of c h ws f d)))
 
+-- a refusal past the test of the sequence number
+module _ (h : TopicCache) (ws : List ℕ) where
+  pub refusing-held : (k : TopicCache) (after : List ℕ) → Refusing h ws (record { cache = k; answer = added.HeldAlready }) after
+  refusing-held k after n e = let z : _≡_ {A = ℕ} 0 1 = cc in absurd (omega arith)
+
+  pub refusing-six : Refusing h ws (record { cache = h; answer = added.NoLaterKey }) ws
+  refusing-six n e = let p : 6 ≡ n = cc in (sym p, refl, refl)
+
+  pub refusing-key : (k : ℕ) (r : Outcome) (after : List ℕ) → r .answer ≡ added.Key k → Refusing h ws r after
+  refusing-key k r after a n e = let q : key k ≡ refused n = ap addedOf (sym a) ∙ e in let z : _≡_ {A = ℕ} 0 1 = cc in absurd (omega arith)
+
+-- on any header and words
+module _ (h : TopicCache) (ws : List ℕ) (t : ℕ) (x : CacheChange) (v : Writer (x .«writer_guid»)) (b : Bool) (e : b ≡ seqFits (x .«sequence_number»)) where
+  pub adds-bad : b ≡ false → Adds t x h ws (record { cache = h; answer = added.BadSequenceNumber }) ws
+  adds-bad q = record {
+    writer = v;
+    by-1 = (λ a. sym e ∙ q, λ f. refl);
+    as-found = λ n a. (refl, refl);
+    stepped = λ c f d. add-bad c h ws t x f d b e q;
+  }
+
+  pub adds-good : b ≡ true → (r : Outcome) (after : List ℕ) → Inner t x h ws r after → Adds t x h ws r after
+  adds-good q r after i = record {
+    writer = v;
+    by-1 = (λ a. absurd (omega (arith, i .refusing 1 a .0)), λ f. absurd (true≢false (sym q ∙ e ∙ f)));
+    as-found = λ n a. (i .refusing n a .1, i .refusing n a .2);
+    stepped = λ c f d. add-good c h ws t x f d b e q r after (i .came);
+  }
+
 -- ---- the range
 
 module _ (c : Topic) (h : TopicCache) (ws : List ℕ) (f : Fit c) (d : Tied c h ws) (s t : ℕ) (out : List ℕ) (n : ℕ)
@@ -221,5 +279,25 @@ module _ (c : Topic) (h : TopicCache) (ws : List ℕ) (f : Fit c) (d : Tied c h 
       → Shown (step c (range s t (length out / 6))) (got.Changes n) out after
   unfolding step
   range-found k after w =
+      let es : List Entry = within s t (c .entries) in
+      let is : after ≡ shownIn es out = w (c .entries) (holds-of c h ws f d) (omega (arith, number)) in
+      let whole : entriesIn (length es) 0 (shownIn es out) ≡ es = entries-back es out (written-within s t (c .entries) (f .writers)) in
+      let back : entriesIn n 0 after ≡ es = ap (λ (k : ℕ). entriesIn k 0 after) number ∙ ap (entriesIn (length es) 0) is ∙ whole in
       rw (le-leb (length (within s t (c .entries))) (length out / 6) (omega (arith, number)))
-      (record { answer = ap got.Changes number; results = w (c .entries) (holds-of c h ws f d) (omega (arith, number)) })
+      (record { answer = ap found back; results = is })
+
+module _ (h : TopicCache) (ws : List ℕ) (s t : ℕ) (out : List ℕ) (n : ℕ) (count : Ranging ws (h .held) s t n) where
+  pub ranges-short : length out / 6 < n → Ranges s t h ws got.TooShort out out
+  ranges-short k = record {
+    nothing = λ z. absurd (omega (arith, count .nothing z));
+    as-found = λ m e. (let p : 9 ≡ m = cc in sym p, refl);
+    stepped = λ c f d. range-short c h ws f d s t out n (count .counted) k;
+  }
+
+  pub ranges-found : n ≤ length out / 6 → (after : List ℕ) → Copying ws (h .held) s t out after → Ranges s t h ws (got.Changes n) out after
+  unfolding entriesIn
+  ranges-found k after w = record {
+    nothing = λ z. (ap (λ (m : ℕ). found (entriesIn m 0 after)) (count .nothing z), w .nothing z);
+    as-found = λ m e. (let z : _≡_ {A = ℕ} 0 1 = cc in absurd (omega arith));
+    stepped = λ c f d. range-found c h ws f d s t out n (count .counted) k after (w .copied);
+  }

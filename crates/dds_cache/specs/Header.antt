@@ -1,15 +1,16 @@
 -- How a topic cache lies in its header and the lent words, and what each call answers and leaves there.
 use mathlib.Core.Path.{_≡_}
-use mathlib.Core.Bool.{cond, _||_}
+use mathlib.Core.Bool.{false, cond, _||_}
+use mathlib.Core.Logic.{_↔_}
 use mathlib.Core.List.{List, []}
 use mathlib.Core.Option.{Option, some, none}
-use Prim.Native.Nat.{ℕ, _+_, _-_, _%_, _≤_}
+use Prim.Native.Nat.{ℕ, _+_, _-_, _/_, _%_, _≤_}
 use lib.Dec.{ltb, leb, eqb}
 use lib.ListN.{length}
 use Rattle.keys.specs.declared.Last.{Last}
 use Rattle.keys.specs.declared.Last.the-variants as last
-use Rattle.model.specs.Topic.{Topic, Entry, Limits, Change, Step, Answer, refused, ok, key, heldAlready, found, places, limitsFit, raised, fresh, removal, collectEvery, collectedFor, adding}
-use Rattle.changes.specs.Places.{Holds, Written, wordsOf, shownIn}
+use Rattle.model.specs.Topic.{Topic, Entry, Limits, Change, Step, Answer, refused, ok, key, heldAlready, found, update, add, removeBefore, range, step, seqFits, places, limitsFit, raised, fresh, removal, collectEvery, collectedFor, adding}
+use Rattle.changes.specs.Places.{Holds, Writer, Written, wordsOf, shownIn, entriesIn}
 use Rattle.changes.specs.declared.CacheChange.{CacheChange}
 use Rattle.dds_cache.specs.declared.History.{History}
 use Rattle.dds_cache.specs.declared.History.the-variants.{KeepAll, KeepLast}
@@ -41,7 +42,7 @@ limitsOf l = record { depth = depthOf (l .«min_keep_samples»); most = l .«max
 abbrev pub given : History → ℕ → Limits
 given h most = record { depth = depthOf h; most = most }
 
--- the limits asked for, "raised to the depth if smaller", or none: refusal 2
+-- the limits asked for, "raised to the depth if smaller", or none
 unfoldable pub newLimits : Limits → Option Limits
 newLimits l = cond (limitsFit l) (some (raised l)) none
 
@@ -91,6 +92,10 @@ clearedIf l ws = cond (limitsFit l) (wordsOf []) ws
 
 -- ---- the paper's numbers, 0 for no refusal
 
+-- refusal 2: "keep limits outside their bounds"
+abbrev pub limitsNumber : Limits → ℕ
+limitsNumber l = cond (limitsFit l) 0 2
+
 abbrev pub limitedNumber : Limited → ℕ
 limitedNumber (limited.Limits l) = 0
 limitedNumber limited.OutOfBounds = 2
@@ -110,11 +115,23 @@ addedOf added.BadSequenceNumber = refused 1
 addedOf added.NoLaterKey = refused 6
 
 -- the entries found stand in the results
-abbrev pub foundOf : Found → List Entry → Answer
-foundOf (got.Changes n) es = found es
-foundOf got.TooShort es = refused 9
+abbrev pub foundOf : Found → List ℕ → Answer
+foundOf (got.Changes n) out = found (entriesIn n 0 out)
+foundOf got.TooShort out = refused 9
 
 -- ---- what each call answers and leaves
+
+abbrev pub changeOf : ℕ → CacheChange → Change
+changeOf time x = record { time = time; writer = x .«writer_guid»; seq = x .«sequence_number»; handle = x .handle; size = x .«payload_size» }
+
+pub record Limiting (l : Limits) (r : Limited) : Type 0 where
+  pub number : limitedNumber r ≡ limitsNumber l
+  pub limits : limitedOf r ≡ newLimits l
+
+pub record Creating (l : Limits) (r : Created) (ws after : List ℕ) : Type 0 where
+  pub number : createdNumber r ≡ limitsNumber l
+  pub head : createdOf r ≡ madeOf l
+  pub words : after ≡ clearedIf l ws
 
 pub record Raised (s : Step) (r : Updated) : Type 0 where
   pub answer : updateOf (r .answer) ≡ s .answer
@@ -128,14 +145,7 @@ pub record Removed (s : Step) (r : TopicCache) (ws : List ℕ) : Type 0 where
   pub answer : ok ≡ s .answer
   pub tied : Tied (s .then) r ws
 
--- how a range's answer is given: the number, and the entries in the results
-abbrev pub toldBy : Answer → Found
-toldBy (found es) = got.Changes (length es)
-toldBy (refused n) = got.TooShort
-toldBy ok = got.TooShort
-toldBy (key k) = got.TooShort
-toldBy heldAlready = got.TooShort
-
+-- "Result places past the answer keep what they held."
 abbrev pub resultsOf : Answer → List ℕ → List ℕ
 resultsOf (found es) out = shownIn es out
 resultsOf (refused n) out = out
@@ -144,13 +154,38 @@ resultsOf (key k) out = out
 resultsOf heldAlready out = out
 
 pub record Shown (s : Step) (r : Found) (before after : List ℕ) : Type 0 where
-  pub answer : r ≡ toldBy (s .answer)
+  pub answer : foundOf r after ≡ s .answer
   pub results : after ≡ resultsOf (s .answer) before
 
--- ---- an add
+-- ---- the contracts: on any header and words what depends on the arguments alone, and on those of a topic cache what the model's step says
 
-abbrev pub changeOf : ℕ → CacheChange → Change
-changeOf time x = record { time = time; writer = x .«writer_guid»; seq = x .«sequence_number»; handle = x .handle; size = x .«payload_size» }
+pub record Updates (l : Limits) (h : TopicCache) (r : Updated) : Type 0 where
+  pub out-of-bounds : limitsFit l ≡ false → r ≡ record { cache = h; answer = up.OutOfBounds }
+  pub stepped : (c : Topic) → shown h ≡ headOf c → Raised (step c (update l)) r
+
+pub record Adds (time : ℕ) (x : CacheChange) (h : TopicCache) (ws : List ℕ) (r : Outcome) (after : List ℕ) : Type 0 where
+  -- "writer 16 bytes", as its type has it: so what is held stays `Fit`
+  pub writer : Writer (x .«writer_guid»)
+  -- "sequence number out of range"
+  pub by-1 : (addedOf (r .answer) ≡ refused 1) ↔ (seqFits (x .«sequence_number») ≡ false)
+  -- "Every refusal returns its number only; state and lent buffers stay as found."
+  pub as-found : (n : ℕ) → addedOf (r .answer) ≡ refused n → (r .cache ≡ h) × (after ≡ ws)
+  pub stepped : (c : Topic) → Fit c → Tied c h ws → Came (step c (add (changeOf time x))) r after
+
+pub record Removes (time : ℕ) (h : TopicCache) (ws : List ℕ) (r : TopicCache) (after : List ℕ) : Type 0 where
+  -- a removal is never refused; limits and last key stay, and no more are held
+  pub limits : r .limits ≡ h .limits
+  pub last : r .«last_added_instant» ≡ h .«last_added_instant»
+  pub fewer : r .held ≤ h .held
+  pub stepped : (c : Topic) → Fit c → Tied c h ws → Removed (step c (removeBefore time)) r after
+
+pub record Ranges (start end : ℕ) (h : TopicCache) (ws : List ℕ) (r : Found) (out after : List ℕ) : Type 0 where
+  -- "with start above end, nothing"
+  pub nothing : end ≤ start → (foundOf r after ≡ found []) × (after ≡ out)
+  pub as-found : (n : ℕ) → foundOf r after ≡ refused n → (n ≡ 9) × (after ≡ out)
+  pub stepped : (c : Topic) → Fit c → Tied c h ws → Shown (step c (range start end (length out / 6))) r out after
+
+-- ---- an add
 
 -- how many entries the collection before an add drops, none without one
 unfoldable pub dropsFor : Limits → List Entry → ℕ → ℕ → ℕ
@@ -171,3 +206,11 @@ unfoldable pub Internal : TopicCache → List Entry → List ℕ → ℕ → Cac
 Internal h es ws instant x r after =
     Holds es (h .held) ws → Written es → h .limits .«max_keep_samples» ≤ 256
     → Came (adding (topicOf h es) (collectedFor (topicOf h es) (changeOf instant x)) (changeOf instant x)) r after
+
+-- past the test of the sequence number there is one refusal, and it leaves the header and the words, whatever they are
+abbrev pub Refusing : TopicCache → List ℕ → Outcome → List ℕ → Type 0
+Refusing h ws r after = (n : ℕ) → addedOf (r .answer) ≡ refused n → (n ≡ 6) × (r .cache ≡ h) × (after ≡ ws)
+
+pub record Inner (time : ℕ) (x : CacheChange) (h : TopicCache) (ws : List ℕ) (r : Outcome) (after : List ℕ) : Type 0 where
+  pub refusing : Refusing h ws r after
+  pub came : (es : List Entry) → Internal h es ws time x r after

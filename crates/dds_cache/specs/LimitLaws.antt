@@ -1,5 +1,5 @@
 -- Keep limits, as the code meets them: one law for each return.
-use mathlib.Core.Path.{_≡_}
+use mathlib.Core.Path.{_≡_, refl}
 use mathlib.Core.Bool.{Bool, true, false, cond}
 use mathlib.Core.List.{List}
 use mathlib.Core.Option.{Option, some, none}
@@ -8,11 +8,13 @@ use native.Mathlib.Omega.{arith}
 use borrow.Author.Tests.{le-leb, lt-leb, eq-eqb, ne-eqb}
 use lib.Dec.{T, ltb, leb, eqb, leb→le}
 use lib.ListN.{length}
-use Rattle.model.specs.Topic.{Entry, Limits, places, inBounds, limitsFit, deeper, wider, seqFits, mayFor, removal, countBelow, collectEvery}
+use Rattle.model.specs.Topic.{Entry, Limits, places, inBounds, limitsFit, raised, deeper, wider, seqFits, mayFor, removal, countBelow, collectEvery}
 use Rattle.dds_cache.specs.declared.History.{History}
 use Rattle.dds_cache.specs.declared.History.the-variants.{KeepAll, KeepLast}
 use Rattle.dds_cache.specs.declared.KeepLimits.{KeepLimits}
-use Rattle.dds_cache.specs.Header.{depthOf, limitsOf, given, newLimits, dropsFor}
+use Rattle.dds_cache.specs.declared.Limited.{Limited}
+use Rattle.dds_cache.specs.declared.Limited.the-variants as limited
+use Rattle.dds_cache.specs.Header.{depthOf, limitsOf, given, newLimits, limitedOf, limitedNumber, limitsNumber, Limiting, dropsFor}
 
 pub bounds-none : (n : ℕ) → n ≡ 0 → false ≡ inBounds n
 bounds-none n e = rw (lt-leb 1 n (omega arith))
@@ -62,6 +64,17 @@ module _ (h : History) (most : ℕ) where
     pub limits-in : inBounds d ≡ true → d ≤ most → some (limitsOf (record { «min_keep_samples» = KeepLast d; «max_keep_samples» = most })) ≡ newLimits (given h most)
     unfolding newLimits limitsFit
     limits-in f l = let m : max d most ≡ most = omega arith in rw (e, k, f, m)
+
+-- the answer with document 01's number of it
+pub limits-told : (l : Limits) (r : Limited) → limitedOf r ≡ newLimits l → Limiting l r
+unfolding newLimits
+limits-told l r e = record { number = go r (limitsFit l) e; limits = e }
+  where
+    go : (r : Limited) (b : Bool) → limitedOf r ≡ cond b (some (raised l)) none → limitedNumber r ≡ cond b 0 2
+    go (limited.Limits k) true q = refl
+    go (limited.Limits k) false q = let z : _≡_ {A = ℕ} 0 1 = cc in absurd (omega arith)
+    go limited.OutOfBounds true q = let z : _≡_ {A = ℕ} 0 1 = cc in absurd (omega arith)
+    go limited.OutOfBounds false q = refl
 
 -- ---- removal
 

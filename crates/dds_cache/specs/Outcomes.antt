@@ -6,12 +6,14 @@ use mathlib.Core.Option.{Option, some, none}
 use Prim.Native.Nat.{ℕ}
 use native.Mathlib.Omega.{arith}
 use lib.Dec.{eqb}
-use lib.ListN.{drop}
+use lib.ListN.{length, drop, replicate, length-replicate}
 use Rattle.keys.specs.declared.Last.{Last}
 use Rattle.model.specs.Topic.{Topic, Entry, Limits, Call, update, add, removeBefore, range, Step, Answer, refused, ok, key, heldAlready, found, limitsFit, fresh, step}
 use Rattle.model.specs.TopicPromises.{newIn, FromTheOldest}
 use Rattle.model.proofs.Topic.{Fits, fits-step, fits-fresh, topic-promises}
-use Rattle.changes.specs.Places.{Writer, Written, wordsOf}
+use Rattle.changes.specs.Places.{Writer, Written, wordsOf, entriesIn}
+use Rattle.changes.specs.Places as places
+use Rattle.changes.specs.ResultLaws.{length-entries}
 use Rattle.changes.specs.WriterLaws.{written-drop, written-more}
 use Rattle.dds_cache.specs.declared.History.{History}
 use Rattle.dds_cache.specs.declared.History.the-variants.{KeepAll, KeepLast}
@@ -28,7 +30,8 @@ use Rattle.dds_cache.specs.declared.Added.{Added}
 use Rattle.dds_cache.specs.declared.Added.the-variants as added
 use Rattle.dds_cache.specs.declared.Outcome.{Outcome}
 use Rattle.dds_cache.specs.declared.Found.{Found}
-use Rattle.dds_cache.specs.Header.{depthOf, limitsOf, limitedOf, Head, shown, headOf, Tied, Fit, createdOf, madeOf, clearedIf, updateOf, addedOf, Raised, Came, Removed, Shown}
+use Rattle.dds_cache.specs.declared.Found.the-variants as got
+use Rattle.dds_cache.specs.Header.{depthOf, limitsOf, limitedOf, Head, shown, headOf, Tied, Fit, createdOf, madeOf, clearedIf, updateOf, addedOf, foundOf, topicOf, Creating, Updates, Raised, Came, Removed, Shown}
 
 -- ---- fit
 
@@ -60,9 +63,9 @@ unfolding Written
 fit-fresh l e = record { few = fits-fresh l e .few; most = fits-fresh l e .most; writers = λ i h. absurd (omega (arith, h)) }
 
 -- an accepted `new` ties the header and the words to the fresh cache
-pub new-tied : (l : Limits) (h : TopicCache) (ws after : List ℕ) → createdOf (created.Cache h) ≡ madeOf l → after ≡ clearedIf l ws → (limitsFit l ≡ true) × Tied (fresh l) h after
+pub new-tied : (l : Limits) (h : TopicCache) (ws after : List ℕ) → Creating l (created.Cache h) ws after → (limitsFit l ≡ true) × Tied (fresh l) h after
 unfolding madeOf clearedIf
-new-tied l h ws after p q = go (limitsFit l) p q
+new-tied l h ws after p = go (limitsFit l) (p .head) (p .words)
   where
     go : (b : Bool) → some (shown h) ≡ cond b (some (headOf (fresh l))) none → after ≡ cond b (wordsOf []) ws → (b ≡ true) × Tied (fresh l) h after
     go true p q = (refl, record { head = cc; words = q })
@@ -142,6 +145,15 @@ updated-one s a b p q = go (a .cache) (b .cache) (a .answer) (b .answer) (shown-
     go : (h k : TopicCache) (u v : Update) → h ≡ k → u ≡ v → _≡_ {A = Updated} (record { cache = h; answer = u }) (record { cache = k; answer = v })
     go h k u v p q = rw (p, q)
 
+-- of an update on any header at all, since every header is that of some topic cache
+any-header : (h : TopicCache) → shown h ≡ headOf (topicOf h (replicate (h .held) places.none))
+any-header h = ap (λ (n : ℕ). record { limits = limitsOf (h .limits); last = h .«last_added_instant»; held = n }) (sym (length-replicate (h .held) places.none))
+
+pub updates-one : (l : Limits) (h : TopicCache) (a b : Updated) → Updates l h a → Updates l h b → a ≡ b
+updates-one l h a b p q =
+    let c : Topic = topicOf h (replicate (h .held) places.none) in
+    updated-one (step c (update l)) a b (p .stepped c (any-header h)) (q .stepped c (any-header h))
+
 pub added-one : (s : Step) (a b : Outcome) (ws vs : List ℕ) → Came s a ws → Came s b vs → (a ≡ b) × (ws ≡ vs)
 added-one s a b ws vs p q =
     let t : (a .cache ≡ b .cache) × (ws ≡ vs) = tied-one (s .then) (a .cache) (b .cache) ws vs (p .tied) (q .tied) in
@@ -154,4 +166,12 @@ pub removed-one : (s : Step) (a b : TopicCache) (ws vs : List ℕ) → Removed s
 removed-one s a b ws vs p q = tied-one (s .then) a b ws vs (p .tied) (q .tied)
 
 pub found-one : (s : Step) (a b : Found) (out xs ys : List ℕ) → Shown s a out xs → Shown s b out ys → (a ≡ b) × (xs ≡ ys)
-found-one s a b out xs ys p q = (p .answer ∙ sym (q .answer), p .results ∙ sym (q .results))
+found-one s a b out xs ys p q = let e : xs ≡ ys = p .results ∙ sym (q .results) in (go a b (p .answer ∙ sym (q .answer) ∙ ap (foundOf b) (sym e)), e)
+  where
+    go : (a b : Found) → foundOf a xs ≡ foundOf b xs → a ≡ b
+    go (got.Changes m) (got.Changes n) e =
+        let l : entriesIn m 0 xs ≡ entriesIn n 0 xs = cc in
+        ap got.Changes (sym (length-entries m 0 xs) ∙ ap length l ∙ length-entries n 0 xs)
+    go (got.Changes m) got.TooShort e = let z : _≡_ {A = ℕ} 0 1 = cc in absurd (omega arith)
+    go got.TooShort (got.Changes n) e = let z : _≡_ {A = ℕ} 0 1 = cc in absurd (omega arith)
+    go got.TooShort got.TooShort e = refl

@@ -2,11 +2,11 @@
 // The changes lie in lent words (crate changes); the cache itself is a small header that goes in and comes back.
 ghost use mathlib.Core.Path.{_≡_};
 ghost use mathlib.Core.List.{List, [], _∷_, _++_};
-ghost use Prim.Native.Nat.{_+_, _-_, _/_, _≤_, _<_, max, min};
+ghost use Prim.Native.Nat.{_-_, _≤_, _<_, max, min};
 ghost use lib.ListN.{length, drop};
-ghost use Rattle.model.specs.Topic.{Topic, Entry, Limits, add, update, removeBefore, range, step, inBounds, seqFits, deeper, wider, defaults, mayFor, removal, collectEvery};
+ghost use Rattle.model.specs.Topic.{Entry, inBounds, seqFits, deeper, wider, defaults, mayFor, removal, collectEvery};
 ghost use Rattle.changes.specs.Places.{Holds, wordsOf, entryOf};
-ghost use Rattle.dds_cache.specs.Header.{depthOf, limitsOf, given, limitedOf, newLimits, createdOf, madeOf, clearedIf, shown, headOf, Tied, Fit, changeOf, dropsFor, without, behind, inserted, Raised, Came, Removed, Shown, Internal};
+ghost use Rattle.dds_cache.specs.Header.{depthOf, limitsOf, given, Limiting, Creating, Updates, Adds, Removes, Ranges, dropsFor, without, behind, inserted, Inner};
 use changes::CacheChange;
 use keys::Issued;
 use keys::Last;
@@ -112,7 +112,7 @@ impl KeepLimits {
 
     // If a definite minimum is specified, max_samples is at least that.
     pub fn new(history: History, max_samples: u32) -> Limited
-        ensures { λ r. ⌜ limitedOf r ≡ newLimits (given history «max_samples») ⌝ }
+        ensures { λ r. ⌜ Limiting (given history «max_samples») r ⌝ }
     {
         if !KeepLimits::in_bounds(max_samples) {
             return Limited::OutOfBounds;
@@ -238,7 +238,7 @@ fn may_remove(history: History, must: usize, held: usize) -> usize
 impl TopicCache {
     // Limits outside their bounds leave the words as they are.
     pub fn new(history: History, max_samples: u32, words: &mut [u64; 2304]) -> Created
-        ensures { λ r. ⌜ (createdOf r ≡ madeOf (given history «max_samples»)) × (now (words .exit) ≡ clearedIf (given history «max_samples») (now (words .entry))) ⌝ }
+        ensures { λ r. ⌜ Creating (given history «max_samples») r (now (words .entry)) (now (words .exit)) ⌝ }
     {
         match KeepLimits::new(history, max_samples) {
             Limited::OutOfBounds => Created::OutOfBounds,
@@ -254,7 +254,7 @@ impl TopicCache {
     }
 
     pub fn update_keep_limits(self, history: History, max_samples: u32) -> Updated
-        ensures { λ r. ⌜ ((c : Topic) → shown self ≡ headOf c → Raised (step c (update (given history «max_samples»))) r) ⌝ }
+        ensures { λ r. ⌜ Updates (given history «max_samples») self r ⌝ }
     {
         match KeepLimits::new(history, max_samples) {
             Limited::OutOfBounds => Updated {
@@ -308,7 +308,7 @@ impl TopicCache {
 
     // Remove changes before the given time, but keep at least `min_keep_samples`, and at most `max_keep_samples`.
     pub fn remove_changes_before(self, words: &mut [u64; 2304], remove_before: u64) -> TopicCache
-        ensures { λ r. ⌜ ((c : Topic) → Fit c → Tied c self (now (words .entry)) → Removed (step c (removeBefore «remove_before»)) r (now (words .exit))) ⌝ }
+        ensures { λ r. ⌜ Removes «remove_before» self (now (words .entry)) r (now (words .exit)) ⌝ }
     {
         let n = self.remove_count(words, remove_before);
         self.without(words, n)
@@ -347,7 +347,7 @@ impl TopicCache {
     }
 
     fn add_change_internal(self, words: &mut [u64; 2304], instant: u64, cc: CacheChange) -> Outcome
-        ensures { λ r. ⌜ ((es : List Entry) → Internal self es (now (words .entry)) instant cc r (now (words .exit))) ⌝ }
+        ensures { λ r. ⌜ Inner instant cc self (now (words .entry)) r (now (words .exit)) ⌝ }
     {
         // First, do garbage collection: here only how many it drops, so that a refusal can leave all as it was.
         let n = self.collect_count(words, cc.sequence_number, cc.payload_size);
@@ -374,7 +374,7 @@ impl TopicCache {
         instant: u64,
         cache_change: CacheChange,
     ) -> Outcome
-        ensures { λ r. ⌜ ((c : Topic) → Fit c → Tied c self (now (words .entry)) → Came (step c (add (changeOf instant «cache_change»))) r (now (words .exit))) ⌝ }
+        ensures { λ r. ⌜ Adds instant «cache_change» self (now (words .entry)) r (now (words .exit)) ⌝ }
     {
         if sequence_fits(cache_change.sequence_number) {
             return self.add_change_internal(words, instant, cache_change);
@@ -393,7 +393,7 @@ impl TopicCache {
         end_instant: u64,
         out: &mut [u64],
     ) -> Found
-        ensures { λ r. ⌜ ((c : Topic) → Fit c → Tied c self (now (words .entry)) → Shown (step c (range «start_instant» «end_instant» (length (now (out .entry)) / 6))) r (now (out .entry)) (now (out .exit))) ⌝ }
+        ensures { λ r. ⌜ Ranges «start_instant» «end_instant» self (now (words .entry)) r (now (out .entry)) (now (out .exit)) ⌝ }
     {
         let held = self.held;
         let n = changes::count_in_range(words, held, start_instant, end_instant);

@@ -1,6 +1,6 @@
 -- What holds of every choice.
-use mathlib.Core.Path.{_≡_, refl}
-use mathlib.Core.Bool.{Bool, true, false, not, _&&_, and-false}
+use mathlib.Core.Path.{_≡_, refl, ap, _∙_}
+use mathlib.Core.Bool.{Bool, true, false, not, _&&_, cond, and-false}
 use Prim.Native.Nat.{ℕ, _≤_, _<_}
 use native.Mathlib.Omega.{arith}
 use borrow.Author.Tests.{le-leb, lt-leb, not-true, not-false}
@@ -13,7 +13,7 @@ use Rattle.sampleinfo.specs.declared.ViewState.the-variants.{New, NotNew}
 use Rattle.sampleinfo.specs.declared.InstanceState.{InstanceState}
 use Rattle.sampleinfo.specs.declared.InstanceState.the-variants.{Alive, NotAliveDisposed, NotAliveNoWriters}
 use Rattle.readcondition.specs.declared.ReadCondition.{ReadCondition}
-use Rattle.readcondition.specs.Masks.{condition, has, chosenBy, isValid, anyCondition, notRead}
+use Rattle.readcondition.specs.Masks.{condition, has, chosenBy, isValid, conditionNumber, validNumber, anyCondition, notRead}
 
 -- a full mask has every bit, and a mask of 0 none
 any-sample : (s : SampleState) → has 3 (sampleBit s) ≡ true
@@ -33,11 +33,6 @@ no-bit : (bit : ℕ) → has 0 bit ≡ false
 no-bit bit = refl
 
 module _ (s : SampleState) (v : ViewState) (i : InstanceState) where
-  -- masks 3, 3, 7 choose every sample
-  pub any-chooses : chosenBy anyCondition s v i ≡ true
-  unfolding chosenBy
-  any-chooses = rw (any-sample s, any-view v, any-instance i)
-
   -- "mask 0 chooses nothing": in any of the three places
   pub no-sample-mask : (b c : ℕ) → chosenBy (condition 0 b c) s v i ≡ false
   unfolding chosenBy
@@ -50,6 +45,11 @@ module _ (s : SampleState) (v : ViewState) (i : InstanceState) where
   pub no-instance-mask : (a b : ℕ) → chosenBy (condition a b 0) s v i ≡ false
   unfolding chosenBy
   no-instance-mask a b = rw (no-bit (instanceBit i), and-false (has b (viewBit v))) (and-false (has a (sampleBit s)))
+
+  -- masks 3, 3, 7 choose every sample
+  pub any-chooses : chosenBy anyCondition s v i ≡ true
+  unfolding chosenBy
+  any-chooses = rw (any-sample s, any-view v, any-instance i)
 
   -- not_read chooses exactly the samples that were not read
   pub not-read-chooses : chosenBy notRead s v i ≡ eqb (sampleBit s) 2
@@ -86,6 +86,14 @@ module _ (c : ReadCondition) (s : SampleState) (v : ViewState) (i : InstanceStat
     by-instance z h k g = rw (← e, ← f, not-false x h, not-false y k) g
 
 module _ (c : ReadCondition) where
+  -- the answer and its number
+  pub valid-told : (r : Bool) → r ≡ isValid c → (r ≡ isValid c) × (validNumber r ≡ conditionNumber c)
+  valid-told r e = (e, ap validNumber e ∙ go (isValid c))
+    where
+      go : (b : Bool) → validNumber b ≡ cond b 0 1
+      go true = refl
+      go false = refl
+
   pub sample-beyond : (a : ℕ) → a ≡ 3 → a < c .«sample_state_mask» → false ≡ isValid c
   unfolding isValid
   sample-beyond a e h = rw (lt-leb (c .«sample_state_mask») 3 (omega arith))

@@ -1,5 +1,5 @@
 -- Masks of states: DDS 1.4, 2.2.2.5.8 (ReadCondition), "to be selected, the current state of the sample must be included".
-use mathlib.Core.Bool.{Bool, not, _&&_, cond}
+use mathlib.Core.Bool.{Bool, true, false, not, _&&_, cond}
 use Prim.Native.Nat.{ℕ}
 use lib.Bits.{bitAnd}
 use lib.Dec.{eqb, leb}
@@ -25,9 +25,14 @@ chosenBy c s v i = has (c .«sample_state_mask») (sampleBit s) && (has (c .«vi
 unfoldable pub isValid : ReadCondition → Bool
 isValid c = leb (c .«sample_state_mask») anySample && (leb (c .«view_state_mask») anyView && leb (c .«instance_state_mask») anyInstance)
 
--- document 01's number for a condition: 0, or 1 where a mask is beyond its bounds
+-- the number of a condition: refusal 1, or 0
 abbrev pub conditionNumber : ReadCondition → ℕ
 conditionNumber c = cond (isValid c) 0 1
+
+-- document 01's number for the answer of `is_valid`
+abbrev pub validNumber : Bool → ℕ
+validNumber true = 0
+validNumber false = 1
 
 abbrev pub anyCondition : ReadCondition
 anyCondition = condition anySample anyView anyInstance

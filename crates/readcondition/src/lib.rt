@@ -1,7 +1,7 @@
 // readcondition.rs: which samples are to be read or taken.
 ghost use mathlib.Core.Path.{_≡_};
 ghost use Rattle.sampleinfo.specs.States.{sampleBit, viewBit, instanceBit};
-ghost use Rattle.readcondition.specs.Masks.{has, chosenBy, isValid, anyCondition, notRead, conditionNumber};
+ghost use Rattle.readcondition.specs.Masks.{has, chosenBy, isValid, conditionNumber, validNumber, anyCondition, notRead};
 use sampleinfo::InstanceState;
 use sampleinfo::SampleState;
 use sampleinfo::ViewState;
@@ -44,7 +44,7 @@ impl ReadCondition {
 
     // No mask has a bit that stands for no state.
     pub fn is_valid(self) -> bool
-        ensures { λ r. ⌜ r ≡ isValid self ⌝ }
+        ensures { λ r. ⌜ (r ≡ isValid self) × (validNumber r ≡ conditionNumber self) ⌝ }
     {
         if SampleState::any() < self.sample_state_mask {
             return false;

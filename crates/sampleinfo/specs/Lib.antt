@@ -4,4 +4,3 @@ pub mod Counts
 pub mod Lifecycle
 pub mod LifecycleLaws
 pub mod Samples
-pub mod SampleLaws

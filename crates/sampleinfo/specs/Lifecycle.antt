@@ -78,6 +78,10 @@ leftBy NotAliveNoWriters = NotAliveNoWriters
 abbrev pub noWritersOf : InstanceMetaData → InstanceMetaData
 noWritersOf i = withState i (leftBy (stateOf i)) (countsOf i)
 
+-- the number of a step: refusal 7, or 0
+abbrev pub lifecycleNumber : InstanceMetaData → InstanceState → ℕ
+lifecycleNumber i new = cond (isLast i new) 7 0
+
 -- document 01's number for a refused step, 0 for one that is not
 abbrev pub steppedNumber : Stepped → ℕ
 steppedNumber (stepped.Now i) = 0

@@ -6,7 +6,7 @@ use native.Mathlib.Omega.{arith}
 use borrow.Author.Tests.{le-leb, lt-leb}
 use lib.Dec.{leb}
 use Rattle.sampleinfo.specs.Counts.{total, disposedCount, noWritersCount, disposedPlus, noWritersPlus}
-use Rattle.sampleinfo.specs.Lifecycle.{stateOf, countsOf, withState, countsAfter, isAlive, isReborn, isLast, becomes, lifecycleOf, steppedOf, leftBy, noWritersOf}
+use Rattle.sampleinfo.specs.Lifecycle.{stateOf, countsOf, withState, countsAfter, isAlive, isReborn, isLast, becomes, lifecycleOf, steppedOf, leftBy, noWritersOf, lifecycleNumber, steppedNumber}
 use Rattle.sampleinfo.specs.declared.InstanceState.{InstanceState}
 use Rattle.sampleinfo.specs.declared.InstanceState.the-variants.{Alive, NotAliveDisposed, NotAliveNoWriters}
 use Rattle.sampleinfo.specs.declared.NotAliveGenerationCounts.{NotAliveGenerationCounts}
@@ -88,6 +88,15 @@ module _ (i : InstanceMetaData) (new : InstanceState) where
   pub now-is : (b : Bool) (y : InstanceMetaData) → b ≡ isLast i new → b ≡ false → y ≡ steppedOf i new → stepped.Now y ≡ lifecycleOf i new
   unfolding lifecycleOf steppedOf
   now-is b y e h q = rw (q, ← e, h)
+
+  -- the answer with document 01's number of it
+  pub step-told : (r : Stepped) → r ≡ lifecycleOf i new → (r ≡ lifecycleOf i new) × (steppedNumber r ≡ lifecycleNumber i new)
+  unfolding lifecycleOf
+  step-told r e = (e, ap steppedNumber e ∙ go (isLast i new))
+    where
+      go : (b : Bool) → steppedNumber (cond b stepped.Refused (stepped.Now (becomes i new))) ≡ cond b 7 0
+      go true = refl
+      go false = refl
 
 -- ---- the no-writers event
 

@@ -1,21 +1,15 @@
--- The sample record, and a sample as it is received.
+-- The sample record.
 use mathlib.Core.Bool.{false, true, cond}
 use mathlib.Core.List.{List}
 use Prim.Native.Nat.{ℕ}
 use lib.ListN.{replicate}
-use Rattle.sampleinfo.specs.States.{madeBy}
 use Rattle.sampleinfo.specs.Counts.{zero, total}
-use Rattle.sampleinfo.specs.Lifecycle.{countsOf, lifecycleOf}
 use Rattle.sampleinfo.specs.declared.NotAliveGenerationCounts.{NotAliveGenerationCounts}
 use Rattle.sampleinfo.specs.declared.SampleState.{SampleState}
 use Rattle.sampleinfo.specs.declared.SampleState.the-variants.{Read, NotRead}
 use Rattle.sampleinfo.specs.declared.Body.{Body}
 use Rattle.sampleinfo.specs.declared.Body.the-variants.{Value}
 use Rattle.sampleinfo.specs.declared.Sample.{Sample}
-use Rattle.sampleinfo.specs.declared.InstanceMetaData.{InstanceMetaData}
-use Rattle.sampleinfo.specs.declared.Stepped.{Stepped}
-use Rattle.sampleinfo.specs.declared.Stepped.the-variants as stepped
-use Rattle.sampleinfo.specs.declared.Received.{Received}
 
 -- a sample that nobody has read, with the counts that it keeps
 abbrev pub unread : NotAliveGenerationCounts → List ℕ → ℕ → Body → Sample
@@ -35,12 +29,3 @@ sampleStateOf s = cond (s .«sample_has_been_read») Read NotRead
 
 abbrev pub totalOf : Sample → ℕ
 totalOf s = total (s .«generation_counts»)
-
--- "Each sample keeps the counts as they stood after its own step."
-abbrev pub afterStep : InstanceMetaData → List ℕ → ℕ → Body → Stepped → Received
-afterStep i writer seq body stepped.Refused = record { refused = true; instance = i; sample = emptySample }
-afterStep i writer seq body (stepped.Now j) = record { refused = false; instance = j; sample = unread (countsOf j) writer seq body }
-
-unfoldable pub receivedOf : InstanceMetaData → List ℕ → ℕ → Body → Received
-unfolding lifecycleOf
-receivedOf i writer seq body = afterStep i writer seq body (lifecycleOf i (madeBy body))

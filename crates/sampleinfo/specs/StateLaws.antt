@@ -1,11 +1,14 @@
 -- The numbers of states and kinds, as the code meets them.
-use mathlib.Core.Path.{_≡_, refl}
+use mathlib.Core.Path.{_≡_, refl, ap, _∙_}
+use mathlib.Core.Bool.{Bool, true, false, cond, _||_}
 use Prim.Native.Nat.{ℕ}
 use borrow.Author.Tests.{eq-eqb, ne-eqb}
-use Rattle.sampleinfo.specs.States.{instanceBit, instanceOfBit, bodyOf}
+use lib.Dec.{eqb}
+use Rattle.sampleinfo.specs.States.{instanceBit, instanceOfBit, bodyOf, bodyNumber, kindNumber}
 use Rattle.sampleinfo.specs.declared.InstanceState.{InstanceState}
 use Rattle.sampleinfo.specs.declared.InstanceState.the-variants.{Alive, NotAliveDisposed, NotAliveNoWriters}
 use Rattle.sampleinfo.specs.declared.Body.the-variants.{Value, Dispose}
+use Rattle.sampleinfo.specs.declared.BodyMade.{BodyMade}
 use Rattle.sampleinfo.specs.declared.BodyMade.the-variants as made
 
 pub bit-disposed : (b : ℕ) → b ≡ 2 → NotAliveDisposed ≡ instanceOfBit b
@@ -31,3 +34,12 @@ body-dispose k h e = rw e
 
 pub body-refused : (k h : ℕ) → (k ≡ 1 → ⊥) → (k ≡ 2 → ⊥) → made.Refused ≡ bodyOf k h
 body-refused k h p q = rw (ne-eqb k 1 p, ne-eqb k 2 q)
+
+-- the answer with document 01's number of it
+pub body-told : (k h : ℕ) (r : BodyMade) → r ≡ bodyOf k h → (r ≡ bodyOf k h) × (bodyNumber r ≡ kindNumber k)
+body-told k h r e = (e, ap bodyNumber e ∙ go (eqb k 1) (eqb k 2))
+  where
+    go : (a b : Bool) → bodyNumber (cond a (made.Body (Value h)) (cond b (made.Body (Dispose h)) made.Refused)) ≡ cond (a || b) 0 1
+    go true b = refl
+    go false true = refl
+    go false false = refl

@@ -1,5 +1,5 @@
 -- The states of DDS 1.4, 2.2.2.5.1.2 (sample), 2.2.2.5.1.8 (view) and 2.2.2.5.1.3 (instance), and document 01's numbers for them.
-use mathlib.Core.Bool.{cond}
+use mathlib.Core.Bool.{cond, _||_}
 use Prim.Native.Nat.{ℕ}
 use lib.Dec.{eqb}
 use Rattle.sampleinfo.specs.declared.SampleState.{SampleState}
@@ -53,9 +53,17 @@ abbrev pub handleOf : Body → ℕ
 handleOf (Value h) = h
 handleOf (Dispose h) = h
 
--- a kind that is not 1 or 2 is refused with 1
 abbrev pub bodyOf : ℕ → ℕ → BodyMade
 bodyOf kind handle = cond (eqb kind 1) (made.Body (Value handle)) (cond (eqb kind 2) (made.Body (Dispose handle)) made.Refused)
+
+-- refusal 1: "kind not 1 or 2"
+abbrev pub kindNumber : ℕ → ℕ
+kindNumber kind = cond (eqb kind 1 || eqb kind 2) 0 1
+
+-- document 01's number for a body that is refused, 0 for one that is made
+abbrev pub bodyNumber : BodyMade → ℕ
+bodyNumber (made.Body b) = 0
+bodyNumber made.Refused = 1
 
 -- "A value makes Alive, a dispose NotAliveDisposed."
 abbrev pub madeBy : Body → InstanceState

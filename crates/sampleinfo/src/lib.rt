@@ -1,10 +1,10 @@
 // sampleinfo.rs: the states of a sample, its view and its instance, the generation counts, the records that hold them, and the lifecycle step.
 ghost use mathlib.Core.Path.{_≡_};
-ghost use Rattle.sampleinfo.specs.States.{sampleBit, viewBit, instanceBit, instanceOfBit, kindOf, handleOf, madeBy, bodyOf, anySample, anyView, anyInstance, notAlive};
+ghost use Rattle.sampleinfo.specs.States.{sampleBit, viewBit, instanceBit, instanceOfBit, kindOf, handleOf, madeBy, bodyOf, bodyNumber, kindNumber, anySample, anyView, anyInstance, notAlive};
 ghost use Prim.Native.Nat.{_<_};
 ghost use Rattle.sampleinfo.specs.Counts.{zero, total, disposedPlus, noWritersPlus, never, accessedAt};
-ghost use Rattle.sampleinfo.specs.Lifecycle.{newInstance, withState, isLast, lifecycleOf, steppedOf, noWritersOf};
-ghost use Rattle.sampleinfo.specs.Samples.{emptySample, markedRead, sampleStateOf, totalOf, receivedOf};
+ghost use Rattle.sampleinfo.specs.Lifecycle.{newInstance, withState, isLast, lifecycleOf, lifecycleNumber, steppedOf, steppedNumber, noWritersOf};
+ghost use Rattle.sampleinfo.specs.Samples.{emptySample, markedRead, sampleStateOf, totalOf};
 
 pub enum SampleState {
     Read,
@@ -60,13 +60,6 @@ pub struct InstanceMetaData {
 pub enum Stepped {
     Now(InstanceMetaData),
     Refused,
-}
-
-// A sample and its instance after its step. Where the step is refused, the instance as it was and the empty record.
-pub struct Received {
-    pub refused: bool,
-    pub instance: InstanceMetaData,
-    pub sample: Sample,
 }
 
 // SampleInfo: the printed fields, the writer and the sequence number.
@@ -191,7 +184,7 @@ impl NotAliveGenerationCounts {
 impl Body {
     // 1 a value, 2 a dispose, anything else is refused with 1
     pub fn of(kind: u8, handle: u32) -> BodyMade
-        ensures { λ r. ⌜ r ≡ bodyOf kind handle ⌝ }
+        ensures { λ r. ⌜ (r ≡ bodyOf kind handle) × (bodyNumber r ≡ kindNumber kind) ⌝ }
     {
         match kind {
             1 => BodyMade::Body(Body::Value(handle)),
@@ -397,7 +390,7 @@ fn after_update(imd: InstanceMetaData, new: InstanceState) -> InstanceMetaData
 
 // The lifecycle step for every other caller, by value.
 pub fn lifecycle(imd: InstanceMetaData, new: InstanceState) -> Stepped
-    ensures { λ r. ⌜ r ≡ lifecycleOf imd new ⌝ }
+    ensures { λ r. ⌜ (r ≡ lifecycleOf imd new) × (steppedNumber r ≡ lifecycleNumber imd new) ⌝ }
 {
     if refuses(imd, new) {
         return Stepped::Refused;
@@ -415,37 +408,5 @@ pub fn no_writers(imd: InstanceMetaData) -> InstanceMetaData
         // you can only die once
         InstanceState::NotAliveDisposed => imd,
         InstanceState::NotAliveNoWriters => imd,
-    }
-}
-
-// A sample is received by its instance: first the step, then the snapshot.
-pub fn receive(
-    imd: InstanceMetaData,
-    writer_guid: [u8; 16],
-    sequence_number: u64,
-    body: Body,
-) -> Received
-    ensures { λ r. ⌜ r ≡ receivedOf imd «writer_guid» «sequence_number» body ⌝ }
-{
-    match lifecycle(imd, body.instance_state()) {
-        Stepped::Refused => Received {
-            refused: true,
-            instance: imd,
-            sample: Sample::empty(),
-        },
-        Stepped::Now(after) => {
-            let counts = after.latest_generation_available;
-            Received {
-                refused: false,
-                instance: after,
-                sample: Sample {
-                    generation_counts: counts,
-                    writer_guid: writer_guid,
-                    sequence_number: sequence_number,
-                    sample_has_been_read: false,
-                    body: body,
-                },
-            }
-        }
     }
 }

@@ -10,7 +10,7 @@ use lib.ListN.{length, drop, getD, set, replicate, length-set, List·getD-eq-def
 use lib.Seq.{set-out, drop-length}
 use Rattle.sampleinfo.specs.Samples.{emptySample, markedRead}
 use Rattle.sampleinfo.specs.declared.Sample.{Sample}
-use Rattle.samples.specs.Table.{peekAt, swapped, touched, putSeen, gathered}
+use Rattle.samples.specs.Table.{peekAt, swapped, touched, emptyTable, putSeen, gathered}
 
 module _ (t : List Sample) (i : ℕ) (h : length t ≤ i) where
   pub peek-past : (s : Sample) → s ≡ emptySample → s ≡ peekAt t i
@@ -50,6 +50,11 @@ pub fill-end : (t u : List Sample) (i : ℕ) → u ≡ replicate i emptySample +
 fill-end t u i e h k l =
     let q : i ≡ length t = omega arith in
     e ∙ rw (q, drop-length t) (append-nil (replicate (length t) emptySample))
+
+-- "256 copies of the empty record"
+pub fill-256 : (t u : List Sample) (i : ℕ) → u ≡ replicate i emptySample ++ drop i t → i ≤ length u → length u ≤ i → length u ≡ length t
+    → length t ≡ 256 → u ≡ emptyTable
+fill-256 t u i e h k l n = fill-end t u i e h k l ∙ ap (λ (j : ℕ). replicate j emptySample) n
 
 -- ---- three numbers of each record
 

@@ -3,7 +3,7 @@ ghost use mathlib.Core.Path.{_≡_};
 ghost use Prim.Native.Nat.{_<_};
 ghost use lib.ListN.{length, set, getD, replicate};
 ghost use Rattle.sampleinfo.specs.Samples.{emptySample, markedRead};
-ghost use Rattle.samples.specs.Table.{peekAt, swapped, touched, putSeen, gathered};
+ghost use Rattle.samples.specs.Table.{peekAt, swapped, touched, emptyTable, putSeen, gathered};
 
 // ---- by value
 
@@ -108,9 +108,9 @@ pub fn touch(t: &mut [sampleinfo::Sample], i: usize, take: bool)
     }
 }
 
-// Every record of the table is the empty record.
+// Every record of the table is the empty record, 256 of them where the table is as long as it must be.
 pub fn fill(t: &mut [sampleinfo::Sample])
-    ensures { λ _. ⌜ now (t .exit) ≡ replicate (length (now (t .entry))) emptySample ⌝ }
+    ensures { λ _. ⌜ (now (t .exit) ≡ replicate (length (now (t .entry))) emptySample) × (length (now (t .entry)) ≡ 256 → now (t .exit) ≡ emptyTable) ⌝ }
 {
     let mut i: usize = 0;
     while i < t.len() {

@@ -1,7 +1,7 @@
 mod Lts
 mod Tie
 use borrow.Author.Needs.{needs}
-use Rattle.samples.specs.TableLaws.{fill-turn, fill-length, fill-end}
+use Rattle.samples.specs.TableLaws.{fill-turn, fill-length, fill-end, fill-256}
 use mathlib.Core.Path.{_≡_}
 use mathlib.Core.List.{_++_}
 use Prim.Native.Nat.{_+_, _-_, _*_, _≤_}
@@ -35,7 +35,7 @@ same-length : tie.Need-same-length Inv-loop μ-loop
 same-length c = search needs
 
 returns : tie.Need-returns Inv-loop μ-loop
-returns c = search (needs, fill-end)
+returns c = (search (needs, fill-end), λ l. search (needs, fill-256))
 
 pub fill-spec : {M : Type 1} → statement M
 fill-spec =

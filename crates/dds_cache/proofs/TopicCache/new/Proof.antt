@@ -19,10 +19,10 @@ topic-requires : tie.Need-topic-requires
 topic-requires c κs = search needs
 
 returns : tie.Need-returns
-returns c = made-none _ _ (c .before .before .new .ensures) (c .enum-told .given .1) _
+returns c = made-none _ _ (c .before .before .new .ensures .limits) (c .enum-told .given .1) _
 
 returns-2 : tie.Need-returns-2
-returns-2 c = made-some _ _ (c .before .before .before .before .before .before .new .ensures) _ (c .before .before .before .before .limits .given .1) _ _ _ (c .topic .ensures) (c .before .clear-all .ensures)
+returns-2 c = made-some _ _ (c .before .before .before .before .before .before .new .ensures .limits) _ (c .before .before .before .before .limits .given .1) _ _ _ (c .topic .ensures) (c .before .clear-all .ensures)
 
 pub new-spec : {M : Type 1} → statement M
 new-spec =

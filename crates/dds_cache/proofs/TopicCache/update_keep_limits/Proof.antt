@@ -1,5 +1,5 @@
 use borrow.Author.Needs.{needs}
-use Rattle.dds_cache.specs.CallLaws.{raised-none, raised-some}
+use Rattle.dds_cache.specs.CallLaws.{updates-none, updates-some}
 use Rattle.dds_cache.proofs.TopicCache.update_keep_limits.Statement.{statement}
 use Rattle.dds_cache.proofs.TopicCache.update_keep_limits.Tie as tie
 
@@ -16,10 +16,10 @@ raise-requires : tie.Need-raise-requires
 raise-requires c κs = search needs
 
 returns : tie.Need-returns
-returns c = λ m t. raised-none _ _ (c .before .before .new .ensures) m _ t (c .enum-told .given .1)
+returns c = updates-none _ _ (c .before .before .new .ensures .limits) (c .enum-told .given .1) _
 
 returns-2 : tie.Need-returns-2
-returns-2 c = λ m t. raised-some _ _ (c .before .before .before .before .before .new .ensures) m (c .before .before .before .before .before .before .args .self) t _ _ (c .before .before .before .other .given .1) (c .raise .ensures)
+returns-2 c = updates-some _ _ (c .before .before .before .before .before .new .ensures .limits) _ _ (c .before .before .before .other .given .1) (c .before .before .before .before .before .before .args .self) (c .raise .ensures)
 
 pub update-keep-limits-spec : {M : Type 1} → statement M
 update-keep-limits-spec =
