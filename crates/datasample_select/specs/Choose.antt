@@ -1,6 +1,6 @@
 -- The answer where nothing is asked of the memory.
 use mathlib.Core.Path.{_≡_}
-use mathlib.Core.Bool.{false}
+use mathlib.Core.Bool.{true, false}
 use mathlib.Core.List.{List}
 use lib.ListN.{length}
 use Rattle.sampleinfo.specs.declared.Sample.{Sample}

@@ -1,6 +1,6 @@
 -- What is made of the bytes that came, and the front of a buffer.
-use mathlib.Core.Path.{_≡_, sym}
-use mathlib.Core.Bool.{Bool, true, false, not, cond}
+use mathlib.Core.Path.{_≡_}
+use mathlib.Core.Bool.{Bool, true, false, cond}
 use mathlib.Core.List.{List}
 use Prim.Native.Nat.{ℕ, _+_, _≤_, _<_}
 use lib.Dec.{eqb}

@@ -178,8 +178,18 @@ pub fn tell(line: &[u8], size: usize) -> Told
 // ---- what went wrong
 
 // Just after a failed call: what failed, and why, on standard error. Who listens no longer is told nothing.
-pub fn fail(what: &[u8]) {
+fn fail(what: &[u8]) {
     if os::errno() != libc::EPIPE {
         os::fail(what);
     }
+}
+
+// Just after a call: where it failed, that is told. The answer is whether it went well.
+pub fn checked(go: bool, what: &[u8]) -> bool
+    ensures { λ r. ⌜ r ≡ go ⌝ }
+{
+    if !go {
+        fail(what);
+    }
+    go
 }

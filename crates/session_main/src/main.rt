@@ -103,20 +103,16 @@ fn tell_all(full: bool, line: &[u8], size: usize, infos: &[u64]) -> Told
 {
     let told = frames::tell(line, size);
     let go = tell_more(full, told, line, infos);
-    if !go {
-        frames::fail(b"session_main: write");
-    }
     Told {
-        go: go,
+        go: frames::checked(go, b"session_main: write"),
         size: told.size,
     }
 }
 
 // "A missing or wrong version byte or a cut-off record prints it and stops."
 fn cut_off() {
-    if !io::write_all(1, b"refused 1\n") {
-        frames::fail(b"session_main: write");
-    }
+    let go = io::write_all(1, b"refused 1\n");
+    frames::checked(go, b"session_main: write");
 }
 
 // No whole piece of the input came: its end, a cut-off piece, or a failed read.
@@ -124,9 +120,7 @@ fn over(piece: Piece) {
     if piece.cut {
         cut_off();
     }
-    if piece.failed {
-        frames::fail(b"session_main: read");
-    }
+    frames::checked(!piece.failed, b"session_main: read");
 }
 
 // ---- a record

@@ -14,6 +14,7 @@ use denote.Array as Array'
 use mathlib.Core.List
 use mathlib.Core.List.{[], _∷_}
 use mir.Syntax as Y
+
 abbrev pub ps : List.List (Kinds.PK 2)
 ps = (L.p Session.the-type Laws''.the-laws Laws''.the-copy Laws''.the-plain) ∷ Kinds.pMut (Array'.Array L.u64 928) 0 tt ∷ MutSlice.pMutS S.row 1 tt ∷ (L.p Arrival.the-type Laws.the-laws
     Laws.the-copy Laws.the-plain) ∷ Array.pArr (Array.eInt Y.w8) (Array.eInt-laws Y.w8) 16 ∷ []

@@ -12,6 +12,7 @@ use contract.Lifetimes
 use contract.Monad
 use denote.Triple.Clauses
 use mathlib.Core.Path.{refl}
+
 abbrev pub Ghost : Type 0
 Ghost = Unit {0}
 
@@ -42,9 +43,15 @@ module _ (κs : Lifetimes.Lfts 2) where
   pre-read = λ a g. Read.all-models (requires a g) (λ w. search Read.reads) (λ w. refl) (λ w. refl) λ w. refl
 
   abbrev pub ensures-1·read : (a : World.ArgsD do_add.signature κs) → (g : Ghost) → (r : World.ResD do_add.signature κs) → (s : Clauses.AtExit (Kinds'.endedOf 2 Kinds.ps Kinds.r) κs) →
-      Read.Read (Base a) (Owned r s) λ w. do_add.ensures-1 (w .𝓤) (w .H) κs (w .𝓖 .A) (w .𝓜 .mem) (w .𝓡 .run) (a .0) (a .1 .0) (a .1 .1 .0) (a .1 .1 .1 .0) (a .1 .1 .1 .1 .0) record { entry
-      = a .0; exit = s .0 } record { entry = a .1 .0; exit = s .1 .0 } record { entry = a .1 .1 .0; exit = s .1 .1 .0 } record { entry = a .1 .1 .1 .0; exit = s .1 .1 .1 .0 } record { entry
-      = a .1 .1 .1 .1 .0; exit = s .1 .1 .1 .1 .0 } r
+      Read.Read (Base a) (Owned r s) λ w. do_add.ensures-1 (w .𝓤) (w .H) κs (w .𝓖 .A) (w .𝓜 .mem) (w .𝓡 .run) (a .0) (a .1 .0) (a .1 .1 .0) (a .1 .1 .1 .0) (a .1 .1 .1 .1 .0) record {
+        entry
+            = a .0;
+        exit = s .0;
+      } record { entry = a .1 .0; exit = s .1 .0 } record { entry = a .1 .1 .0; exit = s .1 .1 .0 } record { entry = a .1 .1 .1 .0; exit = s .1 .1 .1 .0 } record {
+        entry
+            = a .1 .1 .1 .1 .0;
+        exit = s .1 .1 .1 .1 .0;
+      } r
   ensures-1·read = λ a g r s. Read.all-models (λ w. do_add.ensures-1 (w .𝓤) (w .H) κs (w .𝓖 .A) (w .𝓜 .mem) (w .𝓡 .run) (a .0) (a .1 .0) (a .1 .1 .0) (a .1 .1 .1 .0) (a .1 .1 .1 .1 .0)
       record { entry = a .0; exit = s .0 } record { entry = a .1 .0; exit = s .1 .0 } record { entry = a .1 .1 .0; exit = s .1 .1 .0 } record { entry = a .1 .1 .1 .0; exit = s .1 .1 .1 .0 }
       record { entry = a .1 .1 .1 .1 .0; exit = s .1 .1 .1 .1 .0 } r) (λ w. search Read.reads) (λ w. refl) (λ w. refl) λ w. refl

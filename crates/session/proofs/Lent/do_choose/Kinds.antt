@@ -12,6 +12,7 @@ use borrow.Kind.ShrSlice
 use denote.Array
 use mathlib.Core.List
 use mathlib.Core.List.{[], _∷_}
+
 abbrev pub ps : List.List (Kinds.PK 3)
 ps = (L.p Session.the-type Laws''.the-laws Laws''.the-copy Laws''.the-plain) ∷ Kinds.pShr (Array.Array L.u64 928) 0 tt ∷ ShrSlice.pShrS S.row 1 tt ∷ (L.p ReadCondition.the-type
     Laws.the-laws Laws.the-copy Laws.the-plain) ∷ Kinds.pMut (Array.Array L.u64 512) 2 tt ∷ []

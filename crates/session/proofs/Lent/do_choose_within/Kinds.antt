@@ -13,6 +13,7 @@ use denote.Array
 use mathlib.Core.List
 use mathlib.Core.List.{[], _∷_}
 use mir.Syntax as Y
+
 abbrev pub ps : List.List (Kinds.PK 3)
 ps = (L.p Session.the-type Laws''.the-laws Laws''.the-copy Laws''.the-plain) ∷ Kinds.pShr (Array.Array L.u64 928) 0 tt ∷ ShrSlice.pShrS S.row 1 tt ∷ Kinds.pNum Y.w64 ∷ (L.p
     ReadCondition.the-type Laws.the-laws Laws.the-copy Laws.the-plain) ∷ Kinds.pMut (Array.Array L.u64 512) 2 tt ∷ []

@@ -12,6 +12,7 @@ use borrow.Kind.MutSlice
 use denote.Array
 use mathlib.Core.List
 use mathlib.Core.List.{[], _∷_}
+
 abbrev pub ps : List.List (Kinds.PK 2)
 ps = (L.p Session.the-type Laws''.the-laws Laws''.the-copy Laws''.the-plain) ∷ Kinds.pMut (Array.Array L.u64 928) 0 tt ∷ MutSlice.pMutS S.row 1 tt ∷ (L.p SetUp.the-type Laws.the-laws
     Laws.the-copy Laws.the-plain) ∷ []

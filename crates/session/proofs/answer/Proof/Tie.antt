@@ -38,9 +38,30 @@ use Rattle.session.proofs.do_set_up.Symbol as Symbol'9
 use borrow.Fn.Run
 use borrow.Fn.Written
 use contract.Running
+
 abbrev claims : Lts.Claims
-claims = (Reads.Asked, Reads.Learnt, Reads''.Asked, Reads''.Learnt, Reads'.Asked, Reads'.Learnt, Reads'10.Asked, Reads'10.Learnt, Reads'4.Asked, Reads'4.Learnt, Reads'9.Asked,
-    Reads'9.Learnt, Reads'5.Asked, Reads'5.Learnt, Reads'6.Asked, Reads'6.Learnt, Reads'7.Asked, Reads'7.Learnt, Reads'8.Asked, Reads'8.Learnt)
+claims = (
+  Reads.Asked,
+  Reads.Learnt,
+  Reads''.Asked,
+  Reads''.Learnt,
+  Reads'.Asked,
+  Reads'.Learnt,
+  Reads'10.Asked,
+  Reads'10.Learnt,
+  Reads'4.Asked,
+  Reads'4.Learnt,
+  Reads'9.Asked,
+  Reads'9.Learnt,
+  Reads'5.Asked,
+  Reads'5.Learnt,
+  Reads'6.Asked,
+  Reads'6.Learnt,
+  Reads'7.Asked,
+  Reads'7.Learnt,
+  Reads'8.Asked,
+  Reads'8.Learnt,
+)
 
 abbrev pub Start : Type 0
 Start = Lts.Start claims Reads'3.Pre Reads'3.Post
@@ -359,10 +380,22 @@ module _ {M : Type 1} where
   -- antt refused `close` as it was built: the module's report says why
   pub close : Lts.Closed claims Reads'3.Pre Reads'3.Post M → Statement.statement M
   unfolding Code.routine Running.tablesOf
-  close = λ closed 𝓤 H 𝓜 𝓖 𝓡. Written.close 5 Kinds.ps Kinds.r Reads'3.Ghost Reads'3.requires Reads'3.ensures Reads'3.pre-read Reads'3.Pinned Reads'3.Owned Reads'3.post-read record { M = M;
-      𝓤 = 𝓤; H = H; 𝓜 = 𝓜; 𝓖 = 𝓖; 𝓡 = 𝓡 } Code.env Key.name Code.function (Code.unfolded 𝓤 H 𝓜 𝓡) (λ κs a g. tt) (λ κs. Reads'3.owns κs record { M = M; 𝓤 = 𝓤; H = H; 𝓜 = 𝓜; 𝓖 = 𝓖; 𝓡 = 𝓡 })
-      (Reads'3.passes record { M = M; 𝓤 = 𝓤; H = H; 𝓜 = 𝓜; 𝓖 = 𝓖; 𝓡 = 𝓡 }) λ g. closed 𝓤 H (𝓖 .A) (Running.givenOf 𝓤 H 𝓜 𝓖) (Run.Over 𝓤 H 𝓜 𝓖 𝓡 Code.env) (Reads.known record { M = M; 𝓤 = 𝓤;
-      H = H; 𝓜 = 𝓜; 𝓖 = 𝓖; 𝓡 = 𝓡 } Code.env Symbol.name Symbol.routine Code.calls-records·decode (Met.met 𝓤 H 𝓜 𝓖 𝓡)) (Reads''.known record { M = M; 𝓤 = 𝓤; H = H; 𝓜 = 𝓜; 𝓖 = 𝓖; 𝓡 = 𝓡 }
+  close = λ closed 𝓤 H 𝓜 𝓖 𝓡. Written.close 5 Kinds.ps Kinds.r Reads'3.Ghost Reads'3.requires Reads'3.ensures Reads'3.pre-read Reads'3.Pinned Reads'3.Owned Reads'3.post-read record {
+    M = M;
+    𝓤 = 𝓤;
+    H = H;
+    𝓜 = 𝓜;
+    𝓖 = 𝓖;
+    𝓡 = 𝓡;
+  } Code.env Key.name Code.function (Code.unfolded 𝓤 H 𝓜 𝓡) (λ κs a g. tt) (λ κs. Reads'3.owns κs record { M = M; 𝓤 = 𝓤; H = H; 𝓜 = 𝓜; 𝓖 = 𝓖; 𝓡 = 𝓡 })
+      (Reads'3.passes record { M = M; 𝓤 = 𝓤; H = H; 𝓜 = 𝓜; 𝓖 = 𝓖; 𝓡 = 𝓡 }) λ g. closed 𝓤 H (𝓖 .A) (Running.givenOf 𝓤 H 𝓜 𝓖) (Run.Over 𝓤 H 𝓜 𝓖 𝓡 Code.env) (Reads.known record {
+        M = M;
+        𝓤 = 𝓤;
+        H = H;
+        𝓜 = 𝓜;
+        𝓖 = 𝓖;
+        𝓡 = 𝓡;
+      } Code.env Symbol.name Symbol.routine Code.calls-records·decode (Met.met 𝓤 H 𝓜 𝓖 𝓡)) (Reads''.known record { M = M; 𝓤 = 𝓤; H = H; 𝓜 = 𝓜; 𝓖 = 𝓖; 𝓡 = 𝓡 }
       Code.env Symbol''.name Symbol''.routine Code.calls-replies·refusal (Met''.met 𝓤 H 𝓜 𝓖 𝓡)) (Reads'.known record { M = M; 𝓤 = 𝓤; H = H; 𝓜 = 𝓜; 𝓖 = 𝓖; 𝓡 = 𝓡 } Code.env Symbol'.name
       Symbol'.routine Code.calls-replies·declined (Met'.met 𝓤 H 𝓜 𝓖 𝓡)) (Reads'10.known record { M = M; 𝓤 = 𝓤; H = H; 𝓜 = 𝓜; 𝓖 = 𝓖; 𝓡 = 𝓡 } Code.env Symbol'9.name Symbol'9.routine
       Code.calls-session·do-set-up (Met'9.met 𝓤 H 𝓜 𝓖 𝓡)) (Reads'4.known record { M = M; 𝓤 = 𝓤; H = H; 𝓜 = 𝓜; 𝓖 = 𝓖; 𝓡 = 𝓡 } Code.env Symbol'3.name Symbol'3.routine

@@ -23,6 +23,7 @@ use Rattle.session.proofs.do_list.Statement
 use borrow.Fn.Run
 use borrow.Fn.Written
 use contract.Running
+
 abbrev claims : Lts.Claims
 claims = (Reads''.Asked, Reads''.Learnt, Reads'3.Asked, Reads'3.Learnt, Reads'.Asked, Reads'.Learnt, Reads'4.Asked, Reads'4.Learnt, Reads.Asked, Reads.Learnt)
 
@@ -150,11 +151,31 @@ module _ {M : Type 1} where
 
   pub close : Lts.Closed claims Reads'5.Pre Reads'5.Post M → Statement.statement M
   unfolding Code.routine Running.tablesOf
-  close = λ closed 𝓤 H 𝓜 𝓖 𝓡. Written.close 4 Kinds.ps Kinds.r Reads'5.Ghost Reads'5.requires Reads'5.ensures Reads'5.pre-read Reads'5.Pinned Reads'5.Owned Reads'5.post-read record { M = M;
-      𝓤 = 𝓤; H = H; 𝓜 = 𝓜; 𝓖 = 𝓖; 𝓡 = 𝓡 } Code.env Key.name Code.function (Code.unfolded 𝓤 H 𝓜 𝓡) (λ κs a g. tt) (λ κs. Reads'5.owns κs record { M = M; 𝓤 = 𝓤; H = H; 𝓜 = 𝓜; 𝓖 = 𝓖; 𝓡 = 𝓡 })
-      (Reads'5.passes record { M = M; 𝓤 = 𝓤; H = H; 𝓜 = 𝓜; 𝓖 = 𝓖; 𝓡 = 𝓡 }) λ g. closed 𝓤 H (𝓖 .A) (Running.givenOf 𝓤 H 𝓜 𝓖) (Run.Over 𝓤 H 𝓜 𝓖 𝓡 Code.env) (Reads''.known record { M = M; 𝓤 =
-      𝓤; H = H; 𝓜 = 𝓜; 𝓖 = 𝓖; 𝓡 = 𝓡 } Code.env Symbol''.name Symbol''.routine Code.calls-records·pairs-of (Met''.met 𝓤 H 𝓜 𝓖 𝓡)) (Reads'3.known record { M = M; 𝓤 = 𝓤; H = H; 𝓜 = 𝓜; 𝓖 = 𝓖; 𝓡
-      = 𝓡 } Code.env Symbol'3.name Symbol'3.routine Code.calls-replies·at-most (Met'3.met 𝓤 H 𝓜 𝓖 𝓡)) (Reads'.known record { M = M; 𝓤 = 𝓤; H = H; 𝓜 = 𝓜; 𝓖 = 𝓖; 𝓡 = 𝓡 } Code.env Symbol'.name
+  close = λ closed 𝓤 H 𝓜 𝓖 𝓡. Written.close 4 Kinds.ps Kinds.r Reads'5.Ghost Reads'5.requires Reads'5.ensures Reads'5.pre-read Reads'5.Pinned Reads'5.Owned Reads'5.post-read record {
+    M = M;
+    𝓤 = 𝓤;
+    H = H;
+    𝓜 = 𝓜;
+    𝓖 = 𝓖;
+    𝓡 = 𝓡;
+  } Code.env Key.name Code.function (Code.unfolded 𝓤 H 𝓜 𝓡) (λ κs a g. tt) (λ κs. Reads'5.owns κs record { M = M; 𝓤 = 𝓤; H = H; 𝓜 = 𝓜; 𝓖 = 𝓖; 𝓡 = 𝓡 })
+      (Reads'5.passes record { M = M; 𝓤 = 𝓤; H = H; 𝓜 = 𝓜; 𝓖 = 𝓖; 𝓡 = 𝓡 }) λ g. closed 𝓤 H (𝓖 .A) (Running.givenOf 𝓤 H 𝓜 𝓖) (Run.Over 𝓤 H 𝓜 𝓖 𝓡 Code.env) (Reads''.known record {
+        M = M;
+        𝓤 =
+            𝓤;
+        H = H;
+        𝓜 = 𝓜;
+        𝓖 = 𝓖;
+        𝓡 = 𝓡;
+      } Code.env Symbol''.name Symbol''.routine Code.calls-records·pairs-of (Met''.met 𝓤 H 𝓜 𝓖 𝓡)) (Reads'3.known record {
+        M = M;
+        𝓤 = 𝓤;
+        H = H;
+        𝓜 = 𝓜;
+        𝓖 = 𝓖;
+        𝓡
+            = 𝓡;
+      } Code.env Symbol'3.name Symbol'3.routine Code.calls-replies·at-most (Met'3.met 𝓤 H 𝓜 𝓖 𝓡)) (Reads'.known record { M = M; 𝓤 = 𝓤; H = H; 𝓜 = 𝓜; 𝓖 = 𝓖; 𝓡 = 𝓡 } Code.env Symbol'.name
       Symbol'.routine Code.calls-datasample-access·take-by-keys (Met'.met 𝓤 H 𝓜 𝓖 𝓡)) (Reads'4.known record { M = M; 𝓤 = 𝓤; H = H; 𝓜 = 𝓜; 𝓖 = 𝓖; 𝓡 = 𝓡 } Code.env Symbol'4.name
       Symbol'4.routine Code.calls-replies·list-done (Met'4.met 𝓤 H 𝓜 𝓖 𝓡)) (Reads.known record { M = M; 𝓤 = 𝓤; H = H; 𝓜 = 𝓜; 𝓖 = 𝓖; 𝓡 = 𝓡 } Code.env Symbol.name Symbol.routine
       Code.calls-datasample-access·read-by-keys (Met.met 𝓤 H 𝓜 𝓖 𝓡))

@@ -10,6 +10,7 @@ use borrow.Kind.MutSlice
 use denote.Array
 use mathlib.Core.List
 use mathlib.Core.List.{[], _∷_}
+
 abbrev pub ps : List.List (Kinds.PK 7)
 ps = (L.p Session.the-type Laws.the-laws Laws.the-copy Laws.the-plain) ∷ Kinds.pMut (Array.Array L.u64 928) 0 tt ∷ MutSlice.pMutS S.row 1 tt ∷ MutSlice.pMutS L.u8 2 tt ∷ MutSlice.pMutS L.u8
     3 tt ∷ Kinds.pMut (Array.Array L.u64 512) 4 tt ∷ Kinds.pMut (Array.Array L.u64 6912) 5 tt ∷ Kinds.pMut (Array.Array L.u8 66048) 6 tt ∷ Kinds.pBool ∷ []
