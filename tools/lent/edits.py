@@ -3,10 +3,10 @@
 
     python3 tools/lent/edits.py [--control] [CRATE | CRATE/NAME ..]
 
-Run by hand, from anywhere in the repository, once `rt check` has proved every crate; about a minute an edit. It is no part of the gate:
-there, `rt must-fail` would refuse any edit of a lent function, since the machine-made derivation follows the code line by line, and such a
-refusal says nothing of the contract. Here the derivation is made again for the edited code, and what is left to fail is the hand-written
-proofs/F/Proof.antt, at a need that states the contract.
+Run from anywhere in the repository, once `rt check` or `rt ci` has proved every crate; about half a minute an edit. The gate runs one edit of each
+crate (tests/lent.sh names them), and all of them are run by hand. They are no must-fail edits: `rt must-fail` would refuse any edit of a lent
+function, since the machine-made derivation follows the code line by line, and such a refusal says nothing of the contract. Here the derivation is
+made again for the edited code, and what is left to fail is the hand-written proofs/F/Proof.antt, at a need that states the contract.
 
 An edit is a file crates/CRATE/lent-edits/NAME.edit; `\\n` in old and new stands for a new line:
   fn: F              the lent function that is edited
@@ -15,12 +15,14 @@ An edit is a file crates/CRATE/lent-edits/NAME.edit; `\\n` in old and new stands
 More groups of file, old and new may follow, in proofs/F/Proof.antt alone: they bring the hand-written proof to the edited code, where that has
 other needs, another order of them or another invariant, so that nothing but the fact is in its way.
 
-For each edit the crate is copied afresh to a temporary folder, edited and derived again (lent.py CRATE F), and `rt dev CRATE` is run. The edit
-counts if every refusal stands at NEED in F's Proof.antt, follow-ups (`.. was not admitted`) left out. With --control the same is done first
-with no edit, for every function that has one, and must end proved.
+In a copy of the repository, for each edit, the crate is edited and derived again (lent.py CRATE F), and `rt dev CRATE` is run; then the crate is as
+it was, for the crates above it that are tried next. The edit counts if every refusal stands at NEED in F's Proof.antt, follow-ups (`.. was
+not admitted`) left out. With --control the same is done first with no edit, for every function that has one, and must end proved.
 
-Exit status: 0 each edit is refused at its need (and each control is proved); 1 not; 2 bad usage or an edit file that cannot be read.
+Exit status: 0 each edit is refused at its need (and each control is proved); 1 not; 2 bad usage, an unknown edit, an edit file that cannot be read,
+or a repository that is not proved yet.
 """
+import contextlib
 import os
 import pathlib
 import re
@@ -64,30 +66,44 @@ def proof_of(function):
 def all_edits(wanted):
     """The edits by crate and name: all, or those of the crates and names that are wanted."""
     found = {}
+    used = set()
     for path in sorted(ROOT.glob("crates/*/lent-edits/*.edit")):
         crate = path.parts[-3]
-        if not wanted or crate in wanted or f"{crate}/{path.stem}" in wanted:
+        asked = {word for word in wanted if word in (crate, f"{crate}/{path.stem}")}
+        used |= asked
+        if asked or not wanted:
             found[crate, path.stem] = read_edit(path)
+    # a name that no edit has would else be a test less, and nobody would see it
+    if set(wanted) - used or not found:
+        stop("no such edit: " + " ".join(sorted(set(wanted) - used)))
     return found
 
 
 def copy_repository(folder):
     """What lent.py and rt need: the sources, and what is proved and built already."""
+    if not (ROOT / "target" / "stamp").is_dir():
+        stop("nothing is proved yet: rt check comes first")
     shutil.copy(ROOT / "crates.txt", folder)
     for name in ("crates", "tools"):
         shutil.copytree(ROOT / name, folder / name)
     shutil.copytree(ROOT / "target", folder / "target", ignore=shutil.ignore_patterns("must-fail"))
 
 
-def fresh_crate(folder, crate):
-    shutil.rmtree(folder / "crates" / crate)
-    shutil.copytree(ROOT / "crates" / crate, folder / "crates" / crate)
+@contextlib.contextmanager
+def edited(folder, crate):
+    """The crate of the copy, to be edited; afterwards, whatever happened, it is the repository's again."""
+    here = folder / "crates" / crate
+    try:
+        yield here
+    finally:
+        shutil.rmtree(here)
+        shutil.copytree(ROOT / "crates" / crate, here)
 
 
-def apply_group(folder, crate, group):
+def apply_group(here, group):
     """Whether old stood in the file once and is now new."""
     name, old, new = group
-    path = folder / "crates" / crate / name
+    path = here / name
     text = path.read_text(encoding="utf-8")
     path.write_text(text.replace(old, new), encoding="utf-8")
     return text.count(old) == 1
@@ -119,11 +135,11 @@ def last_lines(said):
 def try_edit(folder, crate, edit):
     """Whether the edit is refused at its need, and a line on it."""
     function, need, groups = edit
-    fresh_crate(folder, crate)
-    for group in groups:
-        if not apply_group(folder, crate, group):
-            return False, f"old does not stand in {group[0]} once: {group[1]!r}"
-    status, said = derive_and_check(folder, crate, [function])
+    with edited(folder, crate) as here:
+        for group in groups:
+            if not apply_group(here, group):
+                return False, f"old does not stand in {group[0]} once: {group[1]!r}"
+        status, said = derive_and_check(folder, crate, [function])
     if status is None:
         return False, "the derivation was not made:\n" + last_lines(said)
     if status == 0:
@@ -140,8 +156,8 @@ def try_edit(folder, crate, edit):
 
 def try_control(folder, crate, functions):
     """Whether the crate is proved with the derivations made again and no edit, and a line on it."""
-    fresh_crate(folder, crate)
-    status, said = derive_and_check(folder, crate, functions)
+    with edited(folder, crate):
+        status, said = derive_and_check(folder, crate, functions)
     return status == 0, "proved" if status == 0 else "NOT proved with no edit:\n" + last_lines(said)
 
 
@@ -154,8 +170,6 @@ def report(name, attempt, *given):
 
 def main(control, wanted):
     edits = all_edits(wanted)
-    if not edits:
-        stop("no such edit")
     good = 0
     with tempfile.TemporaryDirectory(prefix="lent-edits-") as name:
         folder = pathlib.Path(name).resolve()
