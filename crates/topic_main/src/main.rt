@@ -1,6 +1,6 @@
 // A program over the topic cache, for the comparison with the Rust (oracle/src/topic/format.rs): records on standard input, lines on standard
 // output. It owns the words of the cache, and answers each record before it waits for the next.
-ghost use Prim.Native.Nat.{_≤_, _<_};
+ghost use Prim.Native.Nat.{_≤_};
 use changes::CacheChange;
 use changes::Kept;
 use dds_cache::Added;
@@ -9,6 +9,7 @@ use dds_cache::Found;
 use dds_cache::KeepLimits;
 use dds_cache::TopicCache;
 use dds_cache::Update;
+use frames::Piece;
 use topic_records::Op;
 
 const SPACE: u8 = 32;
@@ -34,7 +35,8 @@ fn clamp(n: usize, most: usize) -> usize
 }
 
 fn print(text: &[u8]) {
-    io::write_all(1, text);
+    let go = io::write_all(1, text);
+    frames::checked(go, b"topic_main: write");
 }
 
 // The front of a line buffer, in one write.
@@ -223,34 +225,12 @@ fn cut_off() {
     refused(1);
 }
 
-fn wide(x: u8) -> usize
-    ensures { λ r. ⌜ r < 256 ⌝ }
-{
-    x as usize
-}
-
-// What a record's first two bytes say: its length, or that the input ends here or in the middle of them.
-struct Head {
-    go: bool,
-    size: usize,
-}
-
-fn next_head() -> Head
-    ensures { λ r. ⌜ r .size < 65536 ⌝ }
-{
-    let mut two = [0u8; 2];
-    let got = io::read_full(0, &mut two);
-    if got == 0 {
-        return Head { go: false, size: 0 };
-    }
-    if got != 2 {
+// No whole piece of the input came: its end, a cut-off piece, or a failed read.
+fn over(piece: Piece) {
+    if piece.cut {
         cut_off();
-        return Head { go: false, size: 0 };
     }
-    Head {
-        go: true,
-        size: wide(two[0]) * 256 + wide(two[1]),
-    }
+    frames::checked(!piece.failed, b"topic_main: read");
 }
 
 struct After {
@@ -259,49 +239,37 @@ struct After {
 }
 
 // One record: read whole and answered.
-fn one_record(s: Session, words: &mut [u64; 2304], rec: &mut [u8]) -> After {
-    let head = next_head();
-    if !head.go {
+fn one_record(s: Session, words: &mut [u64; 2304], two: &mut [u8], rec: &mut [u8]) -> After {
+    let came = frames::next_record(two, rec);
+    let piece = came.piece;
+    if !piece.go {
+        over(piece);
         return After {
             session: s,
             go: false,
         };
     }
-    let n = clamp(head.size, rec.len());
-    let got = io::read_full(0, &mut rec[..n]);
-    if got != head.size {
-        cut_off();
-        return After {
-            session: s,
-            go: false,
-        };
-    }
+    let n = came.size;
     After {
         session: respond(s, words, &rec[..n]),
         go: true,
     }
 }
 
-fn version_is_known() -> bool {
-    let mut one = [0u8; 1];
-    let got = io::read_full(0, &mut one);
-    if got != 1 {
-        return false;
-    }
-    one[0] == 1
-}
-
 fn main() {
-    if !version_is_known() {
-        cut_off();
+    let mut one = [0u8; 1];
+    let version = frames::next_version(&mut one);
+    if !version.go {
+        over(version);
         return;
     }
     let mut words = [0u64; 2304];
+    let mut two = [0u8; 2];
     let mut rec = [0u8; 65535];
     let mut s = fresh();
     let mut turns = u64::MAX;
     while turns > 0 {
-        let r = one_record(s, &mut words, &mut rec);
+        let r = one_record(s, &mut words, &mut two, &mut rec);
         s = r.session;
         if !r.go {
             return;

@@ -1,20 +1,23 @@
-use borrow.Author.Needs.{needs}
 use mathlib.Core.Path.{_≡_}
 use lib.ListN.{length}
+use borrow.Author.Needs.{needs}
 use Rattle.topic_main.proofs.main.Statement.{statement}
 use Rattle.topic_main.proofs.main.Tie as tie
 
 abbrev Inv-loop : tie.InvT-loop
-Inv-loop words₀ rec₀ s₀ turns₀ words rec s turns = length rec ≡ 65535
+Inv-loop words₀ two₀ rec₀ s₀ turns₀ words two rec s turns = (length two ≡ 2) × (length rec ≡ 65535)
 
 abbrev μ-loop : tie.MeasureT-loop
-μ-loop words₀ rec₀ s₀ turns₀ words rec s turns = turns
+μ-loop words₀ two₀ rec₀ s₀ turns₀ words two rec s turns = turns
 
-version-is-known-requires : tie.Need-version-is-known-requires Inv-loop μ-loop
-version-is-known-requires c κs = search needs
+slice-aggregate-next-version : tie.Need-slice-aggregate-next-version Inv-loop μ-loop
+slice-aggregate-next-version c = search needs
 
-cut-off-requires : tie.Need-cut-off-requires Inv-loop μ-loop
-cut-off-requires c κs = search needs
+next-version-requires : tie.Need-next-version-requires Inv-loop μ-loop
+next-version-requires c κs = search needs
+
+over-requires : tie.Need-over-requires Inv-loop μ-loop
+over-requires c κs = search needs
 
 returns : tie.Need-returns Inv-loop μ-loop
 returns c = search needs
@@ -27,6 +30,9 @@ loop-holds c = search needs
 
 slice-aggregate-one-record : tie.Need-slice-aggregate-one-record Inv-loop μ-loop
 slice-aggregate-one-record c = search needs
+
+slice-aggregate-one-record-2 : tie.Need-slice-aggregate-one-record-2 Inv-loop μ-loop
+slice-aggregate-one-record-2 c = search needs
 
 one-record-requires : tie.Need-one-record-requires Inv-loop μ-loop
 one-record-requires c κs = search needs
@@ -52,12 +58,14 @@ main-spec =
     (tie.spec
     Inv-loop
     μ-loop
-    version-is-known-requires
-    cut-off-requires
+    slice-aggregate-next-version
+    next-version-requires
+    over-requires
     returns
     fresh-requires
     loop-holds
     slice-aggregate-one-record
+    slice-aggregate-one-record-2
     one-record-requires
     returns-2
     sub-turns
