@@ -11,3 +11,4 @@ pub mod Infos
 pub mod Lists
 pub mod Demand3
 pub mod Topic
+pub mod Numbers
