@@ -1,4 +1,13 @@
 // The cache on numbers: the header that goes by value, and the lent words with a region for each thing that a search asks for.
+//
+// The 928 lent words:
+//
+//     from  words  region
+//        0     32  NAMES   the instance keys, in order of arrival; 0 where none is held
+//       32    128  METAS   four words an instance: state, disposed count, no-writers count, last accessed
+//      160    256  CELLS   the slots of the last d samples of each instance, oldest first, d cells an instance; 256 where there is none
+//      416    256  KEYS    the key of the sample in each slot; 0 in a free one
+//      672    256  OWNERS  the row of its instance; 0 in a free one
 ghost use mathlib.Core.Path.{_≡_};
 ghost use Prim.Native.Nat.{_+_, _*_, _%_, _<_, _≤_, min};
 ghost use lib.ListN.{getD, length};

@@ -1,3 +1,4 @@
+// The key rule, for the cache and for the topic cache.
 ghost use mathlib.Core.Path.{_≡_};
 ghost use Rattle.keys.specs.Keys.{keyOf, topicLast};
 

@@ -1,3 +1,4 @@
+// The free slots: one bit each in four words; the number free and the lowest come from counting bits.
 ghost use mathlib.Core.Path.{_≡_};
 ghost use Prim.Native.Nat.{_+_, _<_};
 ghost use lib.ListN.{set, replicate};

@@ -1,3 +1,4 @@
+// Numbers as decimal text, at the end of a small array, and bytes laid into a lent buffer.
 ghost use mathlib.Core.Path.{_≡_};
 ghost use mathlib.Core.List.{_∷_, []};
 ghost use Prim.Native.Nat.{_+_};
