@@ -1,7 +1,7 @@
 #!/usr/bin/env bash
 # The session program on every stored session: what it prints, byte for byte, and that it ends with status 0, which tools/run gives only where it
 # said nothing on standard error.
-# tests/sessions (made by tools/make_sessions.py, printouts by tools/reference.py) and tests/vectors (made by the Rust reference of oracle/).
+# tests/sessions (made by tools/make_sessions.py) and tests/vectors (made by `compare write` of oracle/); the printouts of both are the reference's (oracle/src/reference).
 set -u
 cd "$(dirname "$0")" || exit 1
 [ -x ../target/bin/session_main ] || { echo "no target/bin/session_main: rt check session_main builds it"; exit 1; }

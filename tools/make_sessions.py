@@ -1,18 +1,21 @@
 #!/usr/bin/env python3
-"""Writes the test sessions: NAME.session, the bytes, and NAME.out, the printout by reference.py.
+"""Writes the test sessions: NAME.session, the bytes, and NAME.out, the printout by the reference (oracle/src/bin/reference.rs).
 
     make_sessions.py FOLDER
 
-Not among them, since no session of a reasonable length reaches it: refusal 7, which wants 2,147,483,647 rebirths. Refusal 9 never
-occurs in the program. S1 stands there in text form too, and its printout is document 01's own.
+It needs cargo, which builds the reference. Not among the sessions, since none of a reasonable length reaches it: refusal 7, which
+wants 2,147,483,647 rebirths. Refusal 9 never occurs in the program. S1 stands there in text form too; that its printout is document
+01's own is tested in oracle/tests/s1.rs.
 """
 import pathlib
 import random
+import shutil
+import subprocess
 import sys
 
-from reference import printout
 from session_text import from_bytes, to_bytes
 
+ORACLE = pathlib.Path(__file__).resolve().parent.parent / "oracle"
 TOP = 2 ** 64 - 1
 
 S1 = """set-up 1 2 4
@@ -31,31 +34,6 @@ next 9
 no-writers 8
 """
 
-S1_PRINTOUT = """ok
-key 100 slot 0 evicted -
-key 101 slot 1 evicted -
-key 102 slot 2 evicted -
-key 200 slot 0 evicted 11
-selected 3
-101 9
-102 7
-200 7
-samples 3
-12 1 2 1 1 0 0 2 1 1
-13 2 2 1 1 0 0 1 1 1
-14 1 2 1 1 1 0 0 0 0
-samples 1
-13 2 1 2 1 0 0 0 1 1
-selected 1
-200 7
-samples 1
-14 1 1 1 1 1 0 0 0 0
-key 201 slot 0 evicted 13
-next 9
-next -
-refused 3
-"""
-
 # one record of each operation, as it stands in a session that was set up
 RECORDS = {
     "set-up": "set-up 1 2 4",
@@ -72,6 +50,26 @@ LOOK = ["choose 3 3 7", "choose 1 3 7", "choose 2 3 7", "choose 3 1 7", "choose 
 
 sessions = {}
 
+
+# ---- the reference
+
+def build_reference():
+    """The program of the reference, built from its source as it is now, in oracle's own target folder."""
+    if shutil.which("cargo") is None:
+        sys.exit("make_sessions: no cargo here: it builds the reference (oracle/), which makes the printouts")
+    build = ["cargo", "build", "--release", "--offline", "--quiet", "--target-dir", "target", "--bin", "reference"]
+    if subprocess.run(build, cwd=ORACLE, check=False).returncode != 0:
+        sys.exit("make_sessions: the reference was not built")
+
+
+def printout(session):
+    """What the reference prints for the bytes of a session."""
+    program = ORACLE / "target" / "release" / "reference"
+    # an empty environment: ORACLE_WRONG would make it err
+    return subprocess.run([program], input=session, stdout=subprocess.PIPE, env={}, check=True).stdout.decode("ascii")
+
+
+# ---- sessions
 
 def put(name, lines):
     """A session, from lines of text or from bytes."""
@@ -374,8 +372,8 @@ def chance(seed):
 
 
 def main(folder):
+    build_reference()
     put("S1", S1.splitlines())
-    assert printout(sessions["S1"]) == S1_PRINTOUT
     for make in (malformed_input, malformed_records, list_counts, cut_off, field_faults, all_masks, set_up_bounds, before_set_up, instances_full, no_later_key,
                  mode_3_full, long_lists, list_refusals, keeping, slots, lives, views, ranks, orders, next_keys, writers):
         make()
