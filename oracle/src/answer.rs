@@ -2,7 +2,7 @@
 
 use std::fmt::Write;
 
-use crate::session::Pair;
+use crate::{frames::hex, session::Pair};
 
 #[derive(Debug, Clone, PartialEq, Eq)]
 pub struct Info {
@@ -126,7 +126,6 @@ impl Info {
 
     /// Writer and sequence number.
     fn source(&self) -> String {
-        let writer: String = self.writer.iter().map(|b| format!("{b:02x}")).collect();
-        format!("{writer} {}", self.sequence)
+        format!("{} {}", hex(&self.writer), self.sequence)
     }
 }

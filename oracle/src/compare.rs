@@ -5,10 +5,11 @@ use std::{collections::BTreeMap, io};
 use crate::{
     answer::Answer,
     external::{first_difference, run, talk, Program},
+    frames::{self, hex},
     generate::Step,
     judge::{Judge, Outside},
     reference::Reference,
-    session::{encode_record, Record, VERSION},
+    session::{encode_record, Record},
     wrong::Wrong,
 };
 
@@ -155,10 +156,10 @@ pub fn with_program(program: &Program, bytes: &[u8], tally: &mut Tally) -> io::R
     tally.sessions += 1;
     tally.differences.extend(got.fault);
     if let Some((line, ours, theirs)) = first_difference(&expected, &got.text) {
-        let hex: String = bytes.iter().map(|b| format!("{b:02x}")).collect();
-        let text =
-            format!("line {line}\n  reference: {ours}\n  program:   {theirs}\n  session:   {hex}");
-        tally.differences.push(text);
+        let session = hex(bytes);
+        tally.differences.push(format!(
+            "line {line}\n  reference: {ours}\n  program:   {theirs}\n  session:   {session}"
+        ));
     }
     tally.lines += expected.lines().count() as u64;
     Ok(())
@@ -167,14 +168,9 @@ pub fn with_program(program: &Program, bytes: &[u8], tally: &mut Tally) -> io::R
 /// The same over a pipe: a record goes out only when the one before is answered ("so that a station can talk to the program").
 pub fn over_a_pipe(program: &Program, records: &[Record], tally: &mut Tally) -> io::Result<()> {
     let mut reference = Reference::default();
-    let mut parts = Vec::new();
-    for (n, record) in records.iter().enumerate() {
-        let body = encode_record(record);
-        let mut bytes = if n == 0 { vec![VERSION] } else { Vec::new() };
-        bytes.extend((body.len() as u16).to_be_bytes());
-        bytes.extend(body);
-        parts.push((bytes, reference.step(record).lines(false)));
-    }
+    let answers = records.iter().map(|r| reference.step(r).lines(false));
+    let sent = frames::parts(records.iter().map(encode_record));
+    let parts: Vec<(Vec<u8>, String)> = sent.into_iter().zip(answers).collect();
     tally.sessions += 1;
     tally.lines += parts
         .iter()

@@ -5,10 +5,7 @@ use std::panic::{catch_unwind, AssertUnwindSafe};
 use rustdds::{
     dds::{
         key::Keyed,
-        qos::{
-            policy::{History, ResourceLimits},
-            QosPolicies,
-        },
+        qos::QosPolicies,
         readcondition::ReadCondition,
         sampleinfo::{InstanceState, NotAliveGenerationCounts, SampleInfo},
         with_key::{
@@ -179,21 +176,8 @@ impl Judge {
     }
 
     fn set_up(&mut self, s: &SetUp) {
-        let per_instance = ResourceLimits {
-            max_samples: i32::MAX,
-            max_instances: i32::MAX,
-            max_samples_per_instance: s.keep,
-        };
-        let qos = QosPolicies {
-            history: match s.mode {
-                1 => Some(History::KeepLast { depth: s.keep }),
-                2 | 3 => Some(History::KeepAll),
-                _ => None,
-            },
-            resource_limits: (s.mode == 2).then_some(per_instance),
-        };
         *self = Self {
-            cache: Some(DataSampleCache::new(qos)),
+            cache: Some(DataSampleCache::new(QosPolicies::of_mode(s.mode, s.keep))),
             limit: s.instances.into(),
             no_keep_count: s.mode == 3,
             last_issued: None,

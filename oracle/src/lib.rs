@@ -5,6 +5,7 @@ pub mod answer;
 pub mod compare;
 pub mod direct;
 pub mod external;
+pub mod frames;
 pub mod generate;
 pub mod judge;
 pub mod reference;

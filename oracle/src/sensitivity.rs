@@ -19,19 +19,14 @@ pub struct Row {
 }
 
 /// Sessions by hand, and random ones of each profile with `name` in its name.
-pub fn stream(seed: u64, sessions: usize, name: &str) -> Vec<Vec<Step>> {
+pub fn stream(seed: u64, sessions: u64, name: &str) -> Vec<Vec<Step>> {
     let mut rng = Rng::new(seed);
     let by_hand = corners().into_iter();
     let mut out: Vec<Vec<Step>> = by_hand
         .map(|(_, all)| all.into_iter().map(Step::Record).collect())
         .collect();
     for profile in PROFILES.iter().filter(|p| p.name.contains(name)) {
-        let count = if profile.large {
-            sessions.div_ceil(10)
-        } else {
-            sessions
-        };
-        for _ in 0..count {
+        for _ in 0..profile.sessions(sessions) {
             out.push(random::session(&mut rng, profile));
         }
     }

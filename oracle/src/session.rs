@@ -1,5 +1,7 @@
 //! Document 01's session format: bytes to records and back. No meaning yet: a record may hold any numbers.
 
+use crate::frames;
+
 /// (key, instance), as a list names a sample.
 pub type Pair = (u64, u64);
 
@@ -45,28 +47,14 @@ pub enum Item {
     Stop,
 }
 
-pub const VERSION: u8 = 1;
-
 pub fn items(bytes: &[u8]) -> Vec<Item> {
-    let mut out = Vec::new();
-    let Some((&VERSION, mut rest)) = bytes.split_first() else {
-        return vec![Item::Stop];
-    };
-    while !rest.is_empty() {
-        let Some(body) = body_of(rest) else {
-            out.push(Item::Stop);
-            return out;
-        };
-        out.push(record(body).map_or(Item::Bad, Item::Record));
-        rest = &rest[2 + body.len()..];
-    }
-    out
-}
-
-/// What the two length bytes announce, if it is all there.
-fn body_of(rest: &[u8]) -> Option<&[u8]> {
-    let length = u16::from_be_bytes([*rest.first()?, *rest.get(1)?]);
-    rest.get(2..2 + usize::from(length))
+    let found = frames::records(bytes).into_iter();
+    found
+        .map(|body| match body {
+            Some(body) => record(body).map_or(Item::Bad, Item::Record),
+            None => Item::Stop,
+        })
+        .collect()
 }
 
 fn record(body: &[u8]) -> Option<Record> {
@@ -104,8 +92,7 @@ fn part<'a>(f: &mut &'a [u8], length: usize) -> Option<&'a [u8]> {
 }
 
 fn number(f: &mut &[u8], length: usize) -> Option<u64> {
-    let bytes = part(f, length)?;
-    Some(bytes.iter().fold(0, |n, b| n << 8 | u64::from(*b)))
+    Some(frames::number(part(f, length)?))
 }
 
 fn byte(f: &mut &[u8]) -> Option<u8> {
@@ -125,13 +112,7 @@ fn pairs(f: &mut &[u8]) -> Option<Vec<Pair>> {
 
 /// A whole session as bytes.
 pub fn encode(records: &[Record]) -> Vec<u8> {
-    let mut out = vec![VERSION];
-    for r in records {
-        let body = encode_record(r);
-        out.extend((body.len() as u16).to_be_bytes());
-        out.extend(body);
-    }
-    out
+    frames::encode(records.iter().map(encode_record))
 }
 
 pub fn encode_record(record: &Record) -> Vec<u8> {

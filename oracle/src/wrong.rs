@@ -8,18 +8,20 @@ pub enum Caught {
     ByTheReference,
 }
 
-use Caught::{ByTheReference, ByTheRust};
-
+/// An enum `Wrong` of variants, each with who catches it and what it does wrong. The topic cache's reference has one of its own.
 macro_rules! variants {
     ($($name:ident $caught:ident $text:literal,)*) => {
         #[derive(Debug, Clone, Copy, PartialEq, Eq)]
         pub enum Wrong { $($name),* }
 
         impl Wrong {
-            pub const ALL: &'static [(Wrong, Caught, &'static str)] = &[$((Wrong::$name, $caught, $text)),*];
+            pub const ALL: &'static [(Wrong, $crate::wrong::Caught, &'static str)] =
+                &[$((Wrong::$name, $crate::wrong::Caught::$caught, $text)),*];
         }
     };
 }
+
+pub(crate) use variants;
 
 variants! {
     // The five of "Errors that look right".

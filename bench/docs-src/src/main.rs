@@ -4,10 +4,7 @@ use load::{Add, Added, Engine, Info};
 use rustdds::{
     dds::{
         key::Keyed,
-        qos::{
-            policy::{History, ResourceLimits},
-            QosPolicies,
-        },
+        qos::QosPolicies,
         sampleinfo::SampleInfo,
         with_key::{
             datasample::{DeserializedCacheChange, Sample},
@@ -34,19 +31,7 @@ struct DocsSrc(DataSampleCache<Reading>);
 
 impl Engine for DocsSrc {
     fn set_up(mode: u8, keep: i32, _: u16) -> Option<Self> {
-        let per_instance = ResourceLimits {
-            max_samples: i32::MAX,
-            max_instances: i32::MAX,
-            max_samples_per_instance: keep,
-        };
-        let qos = QosPolicies {
-            history: match mode {
-                1 => Some(History::KeepLast { depth: keep }),
-                2 | 3 => Some(History::KeepAll),
-                _ => None,
-            },
-            resource_limits: (mode == 2).then_some(per_instance),
-        };
+        let qos = QosPolicies::of_mode(mode, keep);
         Some(Self(DataSampleCache::new(qos)))
     }
 

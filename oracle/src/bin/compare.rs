@@ -134,13 +134,7 @@ fn random_sessions(o: &Options) -> io::Result<usize> {
         }
         let mut rng = Rng::new(o.seed.wrapping_mul(1000).wrapping_add(n as u64));
         let mut tally = Tally::default();
-        // A large session counts for ten.
-        let sessions = if profile.large {
-            o.sessions.div_ceil(10)
-        } else {
-            o.sessions
-        };
-        for _ in 0..sessions {
+        for _ in 0..profile.sessions(o.sessions) {
             one(o, &random::session(&mut rng, profile), &mut tally)?;
         }
         tally.print(profile.name);
@@ -233,7 +227,7 @@ fn damaged_sessions(o: &Options) -> io::Result<usize> {
 
 /// Answers how many variants went unseen.
 fn sensitivity(o: &Options) -> usize {
-    let sessions = stream(o.seed, o.sessions as usize, &o.profile);
+    let sessions = stream(o.seed, o.sessions, &o.profile);
     println!(
         "of {} sessions, seen by the Rust and by the reference:",
         sessions.len()

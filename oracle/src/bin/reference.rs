@@ -8,8 +8,9 @@ use std::{
 
 use oracle::{
     answer::Answer,
+    frames::VERSION,
     reference::Reference,
-    session::{items, Item, VERSION},
+    session::{items, Item},
     wrong::Wrong,
 };
 

@@ -129,6 +129,15 @@ pub const PROFILES: &[Profile] = &[
 ];
 
 impl Profile {
+    /// How many sessions to make of it where so many are asked for: a large one counts for ten.
+    pub fn sessions(&self, asked: u64) -> u64 {
+        if self.large {
+            asked.div_ceil(10)
+        } else {
+            asked
+        }
+    }
+
     /// An accepted set-up: small depths mostly, so that samples are pushed out; at times the largest table.
     pub fn set_up(&self, rng: &mut Rng) -> SetUp {
         let mode = rng.pick(self.modes);

@@ -3,13 +3,16 @@
 use std::io;
 
 use super::{
-    format::{decode, encode, lines},
+    format::{decode, encode, lines, record},
     judge::Judge,
     reference::Reference,
     wrong::Wrong,
     Call, Reply,
 };
-use crate::external::{first_difference, run, talk, Program};
+use crate::{
+    external::{first_difference, run, talk, Program},
+    frames,
+};
 
 #[derive(Debug, Default)]
 pub struct Tally {
@@ -89,7 +92,7 @@ pub fn variant_parts(calls: &[Call], wrong: Wrong) -> bool {
 }
 
 /// What a program that speaks `format.rs` must print, record by record.
-fn expected(bytes: &[u8]) -> Vec<String> {
+pub fn expected(bytes: &[u8]) -> Vec<String> {
     let mut reference = Reference::default();
     let calls = decode(bytes).into_iter();
     calls
@@ -122,13 +125,8 @@ pub fn with_program(program: &Program, bytes: &[u8], tally: &mut Tally) -> io::R
 pub fn over_a_pipe(program: &Program, calls: &[Call], tally: &mut Tally) -> io::Result<()> {
     let answers = expected(&encode(calls));
     tally.lines += count_lines(&answers);
-    let mut parts = Vec::new();
-    // The version byte goes with the first record.
-    let mut part = vec![1];
-    for (call, answer) in calls.iter().zip(answers) {
-        part.extend(&encode(std::slice::from_ref(call))[1..]);
-        parts.push((std::mem::take(&mut part), answer));
-    }
+    let sent = frames::parts(calls.iter().map(record));
+    let parts: Vec<(Vec<u8>, String)> = sent.into_iter().zip(answers).collect();
     tally.runs += 1;
     tally.replies += parts.len() as u64;
     tally.differences.extend(talk(program, &parts)?);

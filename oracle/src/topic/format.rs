@@ -1,5 +1,5 @@
 //! A format for a program over the topic cache. It is ours, after the session format: version byte 1, then records of a two-byte
-//! big-endian length, an operation byte and big-endian fields.
+//! big-endian length (`frames.rs`), an operation byte and big-endian fields.
 //!
 //! 0 new and 1 update: keep (0 default, 1 KeepLast, 2 KeepAll), depth (i32), whether max_samples is given (0 or 1), max_samples (i32).
 //! 2 add: writer (16), sequence number (8), handle (4), payload length (4), time (8). 3 remove before: time. 4 range: start, end.
@@ -11,18 +11,13 @@
 use std::fmt::Write;
 
 use super::{Call, Entry, Keep, Limits, Reply};
+use crate::frames::{self, hex, number};
 
 pub fn encode(calls: &[Call]) -> Vec<u8> {
-    let mut out = vec![1];
-    for call in calls {
-        let body = record(call);
-        out.extend((body.len() as u16).to_be_bytes());
-        out.extend(body);
-    }
-    out
+    frames::encode(calls.iter().map(record))
 }
 
-fn record(call: &Call) -> Vec<u8> {
+pub fn record(call: &Call) -> Vec<u8> {
     let mut out = Vec::new();
     match call {
         Call::New(l) => limits(0, l, &mut out),
@@ -62,25 +57,8 @@ fn limits(operation: u8, l: &Limits, out: &mut Vec<u8>) {
 
 /// The calls in the bytes; `None` stands for what is refused with 1. Nothing follows a wrong version or a cut-off record.
 pub fn decode(bytes: &[u8]) -> Vec<Option<Call>> {
-    let mut out = Vec::new();
-    let Some((1, mut rest)) = bytes.split_first() else {
-        return vec![None];
-    };
-    while !rest.is_empty() {
-        let Some((body, tail)) = next_record(rest) else {
-            out.push(None);
-            return out;
-        };
-        out.push(call(body));
-        rest = tail;
-    }
-    out
-}
-
-/// What the two length bytes announce, if it is all there, and what follows it.
-fn next_record(rest: &[u8]) -> Option<(&[u8], &[u8])> {
-    let (head, tail) = rest.split_first_chunk()?;
-    tail.split_at_checked(u16::from_be_bytes(*head).into())
+    let records = frames::records(bytes).into_iter();
+    records.map(|body| call(body?)).collect()
 }
 
 fn call(body: &[u8]) -> Option<Call> {
@@ -98,10 +76,6 @@ fn call(body: &[u8]) -> Option<Call> {
         (4, 17) => Some(Call::Range(number(&body[1..9]), number(&body[9..]))),
         _ => None,
     }
-}
-
-fn number(bytes: &[u8]) -> u64 {
-    bytes.iter().fold(0, |n, b| n << 8 | u64::from(*b))
 }
 
 fn limits_in(body: &[u8]) -> Option<Limits> {
@@ -130,11 +104,11 @@ pub fn lines(reply: &Reply) -> String {
         Reply::Entries(entries) => {
             let mut out = format!("entries {}\n", entries.len());
             for e in entries {
-                let writer: String = e.writer.iter().map(|b| format!("{b:02x}")).collect();
+                let (key, writer) = (e.key, hex(&e.writer));
                 let _ = writeln!(
                     out,
-                    "{} {writer} {} {} {}",
-                    e.key, e.sequence, e.handle, e.length
+                    "{key} {writer} {} {} {}",
+                    e.sequence, e.handle, e.length
                 );
             }
             out

@@ -1,17 +1,6 @@
 //! Wrong variants of the topic cache's reference.
 
-use crate::wrong::Caught::{self, ByTheReference, ByTheRust};
-
-macro_rules! variants {
-    ($($name:ident $caught:ident $text:literal,)*) => {
-        #[derive(Debug, Clone, Copy, PartialEq, Eq)]
-        pub enum Wrong { $($name),* }
-
-        impl Wrong {
-            pub const ALL: &'static [(Wrong, Caught, &'static str)] = &[$((Wrong::$name, $caught, $text)),*];
-        }
-    };
-}
+use crate::wrong::variants;
 
 variants! {
     SmallBelow1024 ByTheRust "1,024 bytes already count as the middle range",

@@ -23,6 +23,23 @@ pub struct QosPolicies {
 }
 
 impl QosPolicies {
+    /// Not the crate's: what document 01's modes 1 to 4 stand for. The limits that it does not name are out of reach.
+    pub fn of_mode(mode: u8, keep: i32) -> Self {
+        let per_instance = policy::ResourceLimits {
+            max_samples: i32::MAX,
+            max_instances: i32::MAX,
+            max_samples_per_instance: keep,
+        };
+        Self {
+            history: match mode {
+                1 => Some(policy::History::KeepLast { depth: keep }),
+                2 | 3 => Some(policy::History::KeepAll),
+                _ => None,
+            },
+            resource_limits: (mode == 2).then_some(per_instance),
+        }
+    }
+
     pub fn history(&self) -> Option<policy::History> {
         self.history
     }
