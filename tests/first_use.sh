@@ -3,14 +3,7 @@
 # it does not even start to build.
 set -u
 cd "$(dirname "$0")/.." || exit 1
-room=$(mktemp -d)
-trap 'rm -rf "$room"' EXIT
-bad=0
-
-wrong() {
-  echo "$*"
-  bad=$((bad + 1))
-}
+. tests/room.bash
 
 # A repository of three crates that the program is made of, and one that it is not; kit libraries do not count.
 mkdir -p "$room/repo/tools" "$room/bin"

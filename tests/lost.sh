@@ -4,14 +4,7 @@
 set -u
 cd "$(dirname "$0")/.." || exit 1
 [ -x target/bin/session_main ] || { echo "no target/bin/session_main: rt check session_main builds it"; exit 1; }
-room=$(mktemp -d)
-trap 'rm -rf "$room"' EXIT
-bad=0
-
-wrong() {
-  echo "$*"
-  bad=$((bad + 1))
-}
+. tests/room.bash
 
 # told NAME STATUS WORDS: status 1, and one line of the program's with these words in the file `said`
 told() {

@@ -3,14 +3,7 @@
 # names another processor, the direct one where it says x86_64; what keeps a program from starting; arguments, bytes, status, words and signals.
 set -u
 cd "$(dirname "$0")/.." || exit 1
-room=$(mktemp -d)
-trap 'rm -rf "$room"' EXIT
-bad=0
-
-wrong() {
-  echo "$*"
-  bad=$((bad + 1))
-}
+. tests/room.bash
 
 # script FILE: a program of the lines that follow
 script() {
