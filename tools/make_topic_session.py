@@ -9,6 +9,8 @@ oracle/target/release/topic_reference prints the same. Refusal 9 never occurs in
 import pathlib
 import sys
 
+from session_text import framed
+
 TOP = 2 ** 64 - 1
 LAST = 2 ** 63 - 1
 A = bytes(range(16))
@@ -71,7 +73,7 @@ CALLS = [
 
 def main():
     folder = pathlib.Path(sys.argv[1])
-    records = b"".join(len(record).to_bytes(2, "big") + record for record, *_ in CALLS)
+    records = b"".join(framed(record) for record, *_ in CALLS)
     # the last record is cut off
     (folder / "stdin").write_bytes(b"\1" + records + b"\0\5\3")
     lines = [line for _, *answer in CALLS for line in answer] + ["refused 1"]

@@ -63,7 +63,7 @@ def record(draw):
             lambda: draw.randbytes(draw.randrange(12)),
         ]
     )()
-    return number(len(body), 2) + body
+    return session_text.framed(body)
 
 
 def any_input(draw):
