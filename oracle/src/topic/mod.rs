@@ -1,6 +1,6 @@
 //! The topic cache: docs/src against a plain reference of document 01's section.
 //!
-//! Document 01 has no program for it, so calls and answers have a format of their own (`format.rs`), for a program that comes later.
+//! Document 01 has no program for it, so calls and answers have a format of their own (`format.rs`), which `topic_main` speaks.
 
 pub mod compare;
 pub mod format;
