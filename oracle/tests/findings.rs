@@ -1,4 +1,4 @@
-//! What docs/src does outside the common ground, with the smallest inputs: document 01's two examples and point 22's.
+//! What docs/src does outside the common ground, with the smallest inputs (docs/DIFFERENCES.md); two are document 01's examples.
 
 use oracle::{
     answer::Answer,

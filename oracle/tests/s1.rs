@@ -36,7 +36,7 @@ fn reference_prints_s1() {
     assert_eq!(expected(&encode(&s1())), S1);
 }
 
-/// Point 22: the tenth record after set-up leaves the ground, and there the Rust issues 150.
+/// The tenth record after set-up leaves the ground, and there the Rust issues 150.
 #[test]
 fn the_rust_on_s1() {
     let mut judge = Judge::default();

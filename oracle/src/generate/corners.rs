@@ -76,7 +76,7 @@ pub fn late_other_instance() -> Vec<Record> {
     ]
 }
 
-/// Point 22: "depth 1: A@10, take, B@10, A@20: the Rust's last add evicts B's live sample."
+/// Depth 1: A at 10, take it, B at 10, A at 20: the Rust's last add evicts B's live sample.
 pub fn late_evicts_other() -> Vec<Record> {
     let take = Record::Take(vec![(10, 7)]);
     vec![
@@ -89,7 +89,7 @@ pub fn late_evicts_other() -> Vec<Record> {
     ]
 }
 
-/// Point 22: "Depth 2: A@10, A@20, take 20, A@15, A@16: the Rust loses the sample at 15."
+/// Depth 2: A at 10, A at 20, take 20, A at 15, A at 16: the Rust loses the sample at 15.
 pub fn late_at_depth_2() -> Vec<Record> {
     let take = Record::Take(vec![(20, 7)]);
     let adds = [add(7, 3, 15), add(7, 4, 16)];

@@ -1,4 +1,4 @@
-//! A plain reference of document 01's session program, written from document 01 and the open points: vectors, walks, nothing
+//! A plain reference of document 01's session program, written from document 01 and docs/DECISIONS.md: vectors, walks, nothing
 //! clever. `wrong` switches one slip on (see `wrong.rs`); without it this is what we believe document 01 says.
 
 mod add;
