@@ -5,6 +5,7 @@
 # tests/sessions is made by tools/make_sessions.py, tests/vectors by `compare write` of oracle/; the printouts of both are the reference's.
 set -u
 tests=$(cd "$(dirname "$0")" && pwd) || exit 1
+# shellcheck source=tests/room.bash
 . "$tests/room.bash"
 if [ $# -eq 0 ]; then
   [ -x "$tests/../target/bin/session_main" ] || { echo "no target/bin/session_main: rt check session_main builds it"; exit 1; }
