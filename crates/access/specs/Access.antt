@@ -1,9 +1,10 @@
 -- Reading and taking a list, on the store and on the words.
 use mathlib.Core.Path.{_≡_}
 use mathlib.Core.Bool.{Bool, false, cond}
+use mathlib.Core.Option.{Option, some, none}
 use mathlib.Core.List.{List, [], _∷_, _++_}
 use Prim.Native.Nat.{ℕ, zero, suc, _+_, _-_, _*_}
-use lib.ListN.{length, getD, set, drop}
+use lib.ListN.{length, getD, set, take, drop}
 use lib.Dec.{ltb, eqb}
 use Rattle.sampleinfo.specs.Counts as counts
 use Rattle.sampleinfo.specs.Counts.{accessedAt}
@@ -12,15 +13,18 @@ use Rattle.sampleinfo.specs.Samples.{emptySample, totalOf}
 use Rattle.sampleinfo.specs.declared.NotAliveGenerationCounts.{NotAliveGenerationCounts}
 use Rattle.sampleinfo.specs.declared.Sample.{Sample}
 use Rattle.sampleinfo.specs.declared.Info.{Info}
-use Rattle.model.specs.Pairs.{Pair, repeats}
+use Rattle.model.specs.Pairs.{Pair, Bad, notLive, twice, badFrom, firstBad}
 use Rattle.pairs.specs.Flat.{pairsOf, wholePairs}
-use Rattle.store.specs.Store.{Store}
+use Rattle.pairs.specs.Repeat.{firstDead}
+use Rattle.store.specs.Store.{Store, isHeld}
 use Rattle.index.specs.Words.{metasIn, ownersIn, metaAt, putMetaWord}
 use Rattle.index.specs.Memory.{Tied}
 use Rattle.index.specs.declared.Cache.{Cache}
 use Rattle.change.specs.Change.{freedAt}
-use Rattle.refine.specs.Lists.{slotsNamed, allSlots, viewedRows}
+use Rattle.refine.specs.Lists.{slotsNamed, viewedRows}
 use Rattle.infos.specs.Infos.{infoFrom}
+use Rattle.access.specs.declared.FirstBad.{FirstBad}
+use Rattle.access.specs.declared.FirstBad.the-variants as code
 
 -- the slot at a place, 256 past the last
 abbrev pub slotAt : List ℕ → ℕ → ℕ
@@ -37,26 +41,42 @@ run (suc n) p slots = slotAt slots p ∷ run n (p + 1) slots
 abbrev pub namedFirst : Store → List Pair → List ℕ → List ℕ
 namedFirst s ps slots = slotsNamed s ps ++ drop (length ps) slots
 
-pub record Found (s : Store) (ps : List Pair) (r : Bool) (slots after : List ℕ) : Type 0 where
-  pub all : r ≡ allSlots (slotsNamed s ps)
-  pub names : after ≡ namedFirst s ps slots
+-- the pairs before the first that is not live
+abbrev pub liveFirst : Store → List Pair → List Pair
+liveFirst s ps = take (firstDead (isHeld s) ps) ps
 
--- 1: "key list not of whole pairs"; 8: "key list names a pair not live, or a pair twice"; 9: "lent result buffer too short for the whole answer".
--- No more than 256 pairs are live
+pub record Found (s : Store) (ps : List Pair) (r : ℕ) (slots after : List ℕ) : Type 0 where
+  pub place : r ≡ firstDead (isHeld s) ps
+  pub names : after ≡ namedFirst s (liveFirst s ps) slots
+
+-- the first bad pair as the code has it
+abbrev pub badOf : FirstBad → Option Bad
+badOf code.Nowhere = none
+badOf (code.NotLive p) = some (record { place = p; fault = notLive })
+badOf (code.Twice p) = some (record { place = p; fault = twice })
+
+-- 8: "key list names a pair not live, or a pair twice"
+abbrev pub numberOf : Option Bad → ℕ
+numberOf none = 0
+numberOf (some b) = 8
+
+abbrev pub orShort : ℕ → ℕ → ℕ → ℕ
+orShort zero room n = cond (ltb room n) 9 0
+orShort (suc k) room n = suc k
+
+-- 1: "key list not of whole pairs"; then the number of the first bad pair; 9: "lent result buffer too short for the whole answer".
+-- No more than 256 pairs are live, so of more one is bad
 unfoldable pub listRefusal : Store → List ℕ → ℕ → ℕ
-unfolding pairsOf wholePairs repeats allSlots
+unfolding pairsOf wholePairs badFrom
 listRefusal s list room =
     cond (wholePairs list)
     (cond (ltb 256 (length (pairsOf list))) 8
-    (cond (repeats (pairsOf list)) 8
-    (cond (allSlots (slotsNamed s (pairsOf list)))
-    (cond (ltb room (length (pairsOf list))) 9 0) 8))) 1
+    (orShort (numberOf (firstBad (isHeld s) (pairsOf list))) room (length (pairsOf list)))) 1
 
--- a list that is refused for its form alone names no slot
+-- a list that is refused for its form or its length names no slot
 unfoldable pub slotsAfter : Store → List ℕ → List ℕ → List ℕ
-unfolding pairsOf wholePairs repeats
-slotsAfter s list slots =
-    cond (wholePairs list) (cond (ltb 256 (length (pairsOf list))) slots (cond (repeats (pairsOf list)) slots (namedFirst s (pairsOf list) slots))) slots
+unfolding pairsOf wholePairs firstDead
+slotsAfter s list slots = cond (wholePairs list) (cond (ltb 256 (length (pairsOf list))) slots (namedFirst s (liveFirst s (pairsOf list)) slots)) slots
 
 pub record Refuses (s : Store) (list : List ℕ) (room r : ℕ) (slots after : List ℕ) : Type 0 where
   pub number : r ≡ listRefusal s list room

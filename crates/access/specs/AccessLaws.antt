@@ -1,6 +1,6 @@
 -- Reading and taking a list, as the code meets it.
 use mathlib.Core.Path.{_≡_, refl, sym, ap, _∙_}
-use mathlib.Core.Bool.{Bool, true, false, _&&_, not, cond, true≢false}
+use mathlib.Core.Bool.{Bool, true, false, not, cond, true≢false}
 use mathlib.Core.List.{List, [], _∷_, _++_}
 use Prim.Native.Nat.{ℕ, zero, suc, _+_, _-_, _*_, _/_, _≤_, _<_, min}
 use native.Mathlib.Nat.{le-of-suc-le-suc, not-suc-le-zero, sub-zero}
@@ -8,7 +8,6 @@ use native.Mathlib.Numerals.{add-one}
 use native.Mathlib.Omega.{arith}
 use borrow.Author.Tests.{lt-ltb, le-ltb, ne-eqb, not-true, not-false}
 use lib.ListN.{length, getD, set, take, drop, length-map}
-use lib.Seq.{drop-cons, take-all}
 use lib.Dec.{ltb, eqb}
 use Rattle.sampleinfo.specs.Counts as counts
 use Rattle.sampleinfo.specs.Counts.{accessedAt}
@@ -17,12 +16,12 @@ use Rattle.sampleinfo.specs.declared.NotAliveGenerationCounts.{NotAliveGenerati
 use Rattle.sampleinfo.specs.declared.InstanceMetaData.{InstanceMetaData}
 use Rattle.sampleinfo.specs.declared.Sample.{Sample}
 use Rattle.sampleinfo.specs.declared.Info.{Info}
-use Rattle.model.specs.Pairs.{Pair, repeats}
+use Rattle.model.specs.Pairs.{Pair, firstBad}
 use Rattle.pairs.specs.Flat.{pairsOf, pairAt, wholePairs}
 use Rattle.pairs.specs.FlatLaws.{length-pairs, noPair, pair-at}
-use Rattle.pairs.specs.Repeat.{firstRepeat}
-use Rattle.pairs.specs.RepeatLaws.{repeat-less, less-repeat}
-use Rattle.store.specs.Store.{Store, slotNamed, accessedIn}
+use Rattle.pairs.specs.Repeat.{firstRepeat, firstDead, badBy}
+use Rattle.pairs.specs.BadLaws.{dead-here, dead-on, dead-past, bad-by}
+use Rattle.store.specs.Store.{Store, slotNamed, isHeld, accessedIn}
 use Rattle.store.specs.Fit.{Fit}
 use Rattle.index.specs.Words.{metasIn, ownersIn, metaAt, putMetaWord}
 use Rattle.index.specs.Memory.{View, shown, headOf, Tied, Held}
@@ -31,28 +30,24 @@ use Rattle.index.specs.Keeping.{fit-accessed, head-with}
 use Rattle.index.specs.declared.Cache.{Cache}
 use Rattle.change.specs.Change.{Kept, freedAt}
 use Rattle.change.specs.Keeping.{tied-kept, fit-freed-at}
-use Rattle.refine.specs.Lists.{slotsNamed, allSlots, viewedRows}
+use Rattle.refine.specs.Lists.{slotsNamed, viewedRows}
 use Rattle.infos.specs.Infos.{infoFrom}
 use Rattle.infos.specs.Words.{putInfo}
-use Rattle.access.specs.Access.{slotAt, run, Found, listRefusal, slotsAfter, Refuses, Judges, lastCounts, noted, freedEach, viewedWord, viewedBy, settled}
+use Rattle.access.specs.declared.FirstBad.{FirstBad}
+use Rattle.access.specs.declared.FirstBad.the-variants as code
+use Rattle.access.specs.Access.{slotAt, run, namedFirst, Found, badOf, numberOf, orShort, listRefusal, slotsAfter, Refuses, Judges, lastCounts, noted, freedEach, viewedWord, viewedBy, settled}
 
 -- ---- the slots of a list
 
-pub still-yes : (ok : Bool) (slot : ℕ) → ok ≡ true → ltb slot 256 ≡ ok && ltb slot 256
-still-yes ok slot e = rw e
+-- the slots passed stand in their places, and no pair passed is dead
+unfoldable pub Finds : Cache → List ℕ → List ℕ → List ℕ → ℕ → List ℕ → Type 0
+unfolding pairsOf firstDead
+Finds h ws list slots i now = (s : Store) → length slots ≡ 256 → Tied s h ws
+    → (now ≡ take i (slotsNamed s (pairsOf list)) ++ drop i slots) × (i + firstDead (isHeld s) (drop i (pairsOf list)) ≡ firstDead (isHeld s) (pairsOf list))
 
-pub still-no : (ok : Bool) (slot : ℕ) → ok ≡ false → false ≡ ok && ltb slot 256
-still-no ok slot e = rw e
-
--- the slots passed stand in their places, and all of them are slots exactly if so far `ok`
-unfoldable pub Finds : Cache → List ℕ → List ℕ → List ℕ → ℕ → List ℕ → Bool → Type 0
-unfolding pairsOf allSlots
-Finds h ws list slots i now ok = (s : Store) → length slots ≡ 256 → Tied s h ws
-    → (now ≡ take i (slotsNamed s (pairsOf list)) ++ drop i slots) × (ok && allSlots (drop i (slotsNamed s (pairsOf list))) ≡ allSlots (slotsNamed s (pairsOf list)))
-
-pub finds-start : (h : Cache) (ws list slots : List ℕ) → Finds h ws list slots 0 slots true
+pub finds-start : (h : Cache) (ws list slots : List ℕ) → Finds h ws list slots 0 slots
 unfolding Finds
-finds-start h ws list slots s long t = (refl, refl)
+finds-start h ws list slots s long t = (refl, omega arith)
 
 put-next : (i : ℕ) (ks slots : List ℕ) → i < length ks → i < length slots → set (take i ks ++ drop i slots) i (getD ks i 256) ≡ take (suc i) ks ++ drop (suc i) slots
 put-next i [] slots h l = absurd (not-suc-le-zero h)
@@ -60,48 +55,66 @@ put-next i (k ∷ ks) [] h l = absurd (not-suc-le-zero l)
 put-next zero (k ∷ ks) (x ∷ slots) h l = refl
 put-next (suc i) (k ∷ ks) (x ∷ slots) h l = ap (λ (r : List ℕ). k ∷ r) (put-next i ks slots (le-of-suc-le-suc h) (le-of-suc-le-suc l))
 
-and-assoc : (a b c : Bool) → (a && b) && c ≡ a && (b && c)
-and-assoc true b c = refl
-and-assoc false b c = refl
-
 get-named : (s : Store) (ps : List Pair) (i : ℕ) → i < length ps → getD (slotsNamed s ps) i 256 ≡ slotNamed s (getD ps i noPair)
 get-named s [] i h = absurd (not-suc-le-zero h)
 get-named s (p ∷ ps) zero h = refl
 get-named s (p ∷ ps) (suc i) h = get-named s ps i (le-of-suc-le-suc h)
 
-module _ (h : Cache) (ws list slots : List ℕ) (n i : ℕ) (now : List ℕ) (ok : Bool) (f : Finds h ws list slots i now ok) (e : n ≡ length list / 2) where
-  pub finds-on : (slot : ℕ) (more : Bool) → ((z : Store) → Tied z h ws → slot ≡ slotNamed z (pairAt (getD list (2 * i) 0) (getD list (2 * i + 1) 0)))
-      → more ≡ ok && ltb slot 256 → i < n → n ≤ 256 → Finds h ws list slots (i + 1) (set now i slot) more
-  unfolding Finds allSlots
-  finds-on slot more w q l b s long t =
-      let m : length (pairsOf list) ≡ length list / 2 = length-pairs list in
-      let k : length (slotsNamed s (pairsOf list)) ≡ length (pairsOf list) = length-map (pairsOf list) (slotNamed s) in
-      let at : slot ≡ getD (slotsNamed s (pairsOf list)) i 256 = w s t ∙ sym (get-named s (pairsOf list) i (omega arith) ∙ ap (slotNamed s) (pair-at list i (omega arith))) in (
-        rw (f s long t .0, at, add-one i) (put-next i (slotsNamed s (pairsOf list)) slots (omega arith) (omega arith)),
-        rw (q, add-one i, and-assoc ok (ltb slot 256) (allSlots (drop (suc i) (slotsNamed s (pairsOf list)))), at)
-            (ap (λ (l : List ℕ). ok && allSlots l) (sym (drop-cons (slotsNamed s (pairsOf list)) i 256 (omega arith))) ∙ f s long t .1),
-      )
+named-first : (s : Store) (ps : List Pair) (slots : List ℕ) (i : ℕ) → i ≤ length ps → take i (slotsNamed s ps) ++ drop i slots ≡ namedFirst s (take i ps) slots
+named-first s ps slots i h = rw (taken i ps, length-of i ps h)
+  where
+    taken : (i : ℕ) (ps : List Pair) → take i (slotsNamed s ps) ≡ slotsNamed s (take i ps)
+    taken zero ps = refl
+    taken (suc i) [] = refl
+    taken (suc i) (p ∷ ps) = ap (λ (r : List ℕ). slotNamed s p ∷ r) (taken i ps)
 
-  pub finds-end : i ≤ n → n ≤ i → (s : Store) → length slots ≡ 256 → Tied s h ws → Found s (pairsOf list) ok slots now
-  unfolding Finds allSlots
-  finds-end l b s long t =
-      let m : length (pairsOf list) ≡ length list / 2 = length-pairs list in
-      let k : length (slotsNamed s (pairsOf list)) ≡ length (pairsOf list) = length-map (pairsOf list) (slotNamed s) in
-      let at : i ≡ length (pairsOf list) = omega arith in
-      record {
-        all = and-true ok ∙ ap (λ (x : List ℕ). ok && allSlots x) (sym (drop-all i (slotsNamed s (pairsOf list)) (omega arith))) ∙ f s long t .1;
-        names = f s long t .0 ∙ rw (take-all i (slotsNamed s (pairsOf list)) (omega arith), at);
-      }
-    where
-      and-true : (a : Bool) → a ≡ a && true
-      and-true true = refl
-      and-true false = refl
+    length-of : (i : ℕ) (ps : List Pair) → i ≤ length ps → length (take i ps) ≡ i
+    length-of zero ps h = refl
+    length-of (suc i) [] h = absurd (not-suc-le-zero h)
+    length-of (suc i) (p ∷ ps) h = ap suc (length-of i ps (le-of-suc-le-suc h))
 
-      drop-all : (i : ℕ) (l : List ℕ) → length l ≤ i → drop i l ≡ []
-      drop-all zero [] h = refl
-      drop-all (suc i) [] h = refl
-      drop-all zero (x ∷ l) h = absurd (not-suc-le-zero h)
-      drop-all (suc i) (x ∷ l) h = drop-all i l (le-of-suc-le-suc h)
+module _ (h : Cache) (ws list slots : List ℕ) (n i : ℕ) (now : List ℕ) (f : Finds h ws list slots i now) (e : n ≡ length list / 2) where
+  found-at : (s : Store) → length slots ≡ 256 → Tied s h ws → i ≤ length (pairsOf list) → firstDead (isHeld s) (drop i (pairsOf list)) ≡ 0 → Found s (pairsOf list) i slots now
+  unfolding Finds firstDead
+  found-at s long t l z =
+      let d : i ≡ firstDead (isHeld s) (pairsOf list) = omega (arith, f s long t .1) in
+      record { place = d; names = f s long t .0 ∙ named-first s (pairsOf list) slots i l ∙ ap (λ (k : ℕ). namedFirst s (take k (pairsOf list)) slots) d }
+
+  pub finds-end : i ≤ n → n ≤ i → (s : Store) → length slots ≡ 256 → Tied s h ws → Found s (pairsOf list) i slots now
+  finds-end l b s long t = let m : length (pairsOf list) ≡ length list / 2 = length-pairs list in
+      found-at s long t (omega arith) (dead-past (isHeld s) (pairsOf list) i (omega arith))
+
+  module _ (slot : ℕ) (w : (z : Store) → Tied z h ws → slot ≡ slotNamed z (pairAt (getD list (2 * i) 0) (getD list (2 * i + 1) 0))) (l : i < n) where
+    within : i < length (pairsOf list)
+    within = omega (arith, length-pairs list)
+
+    named-is : (s : Store) → Tied s h ws → slot ≡ slotNamed s (getD (pairsOf list) i noPair)
+    named-is s t = w s t ∙ sym (ap (slotNamed s) (pair-at list i (omega arith)))
+
+    pub finds-dead : 256 ≤ slot → (s : Store) → length slots ≡ 256 → Tied s h ws → Found s (pairsOf list) i slots now
+    finds-dead b s long t =
+        found-at s long t (omega (arith, within)) (dead-here (isHeld s) (pairsOf list) i within (rw (← (named-is s t)) (le-ltb slot 256 b)))
+
+    pub finds-on : slot < 256 → n ≤ 256 → Finds h ws list slots (i + 1) (set now i slot)
+    unfolding Finds
+    finds-on b few s long t =
+        let k : length (slotsNamed s (pairsOf list)) ≡ length (pairsOf list) = length-map (pairsOf list) (slotNamed s) in
+        let at : slot ≡ getD (slotsNamed s (pairsOf list)) i 256 = named-is s t ∙ sym (get-named s (pairsOf list) i within) in
+        let on : firstDead (isHeld s) (drop i (pairsOf list)) ≡ suc (firstDead (isHeld s) (drop (i + 1) (pairsOf list))) =
+        dead-on (isHeld s) (pairsOf list) i within (rw (← (named-is s t)) (lt-ltb slot 256 b)) in
+        (rw (f s long t .0, at, add-one i) (put-next i (slotsNamed s (pairsOf list)) slots (omega (arith, within)) (omega arith)), omega (arith, f s long t .1, on))
+
+-- ---- the first bad pair, by its two places
+
+module _ (d r n : ℕ) where
+  pub bad-twice : r < d → badOf (code.Twice r) ≡ badBy d r n
+  bad-twice l = rw (lt-ltb r d l)
+
+  pub bad-dead : d ≤ r → d < n → badOf (code.NotLive d) ≡ badBy d r n
+  bad-dead k l = rw (le-ltb r d k, lt-ltb d n l)
+
+  pub bad-none : d ≤ r → n ≤ d → badOf code.Nowhere ≡ badBy d r n
+  bad-none k l = rw (le-ltb r d k, le-ltb d n l)
 
 -- ---- the refusals
 
@@ -124,45 +137,34 @@ module _ (h : Cache) (ws list slots : List ℕ) (room : ℕ) where
         let b : ltb 256 (length (pairsOf list)) ≡ true = lt-ltb 256 (length (pairsOf list)) (omega (arith, length-pairs list)) in
         record { number = rw (whole, b); names = rw (whole, b) })
 
-    module _ (few : length list / 2 ≤ 256) where
-      fits : ltb 256 (length (pairsOf list)) ≡ false
-      fits = le-ltb 256 (length (pairsOf list)) (omega (arith, length-pairs list))
+    module _ (few : length list / 2 ≤ 256) (d : ℕ) (after : List ℕ) (f : (z : Store) → length slots ≡ 256 → Tied z h ws → Found z (pairsOf list) d slots after)
+        (r : ℕ) (g : r ≡ firstRepeat (pairsOf list)) (x : FirstBad) (o : badOf x ≡ badBy d r (length list / 2)) (k : ℕ) (q : k ≡ numberOf (badOf x)) where
+      first-is : (s : Store) → length slots ≡ 256 → Tied s h ws → badOf x ≡ firstBad (isHeld s) (pairsOf list)
+      first-is s long t = o ∙ rw (f s long t .place, g, ← (length-pairs list)) (sym (bad-by (isHeld s) (pairsOf list)))
 
-      pub refuse-twice : (r : ℕ) → r ≡ firstRepeat (pairsOf list) → r < length list / 2 → Judges h ws list room 8 slots slots
+      -- what is refused for no bad pair is refused with 9
+      by-number : (y : ℕ) → y ≡ orShort k room (length (pairsOf list)) → Judges h ws list room y slots after
       unfolding listRefusal slotsAfter
-      refuse-twice r q l = judged 8 slots (λ s long t.
-          let b : repeats (pairsOf list) ≡ true = less-repeat (pairsOf list) (omega (arith, length-pairs list)) in
-          record { number = rw (whole, fits, b); names = rw (whole, fits, b) })
+      by-number y e = judged y after (λ s long t.
+          let fits : ltb 256 (length (pairsOf list)) ≡ false = le-ltb 256 (length (pairsOf list)) (omega (arith, length-pairs list)) in
+          record {
+            number = e ∙ rw (whole, fits) (ap (λ (j : ℕ). orShort j room (length (pairsOf list))) (q ∙ ap numberOf (first-is s long t)));
+            names = f s long t .names ∙ rw (whole, fits);
+          })
 
-      module _ (r : ℕ) (q : r ≡ firstRepeat (pairsOf list)) (l : length list / 2 ≤ r) (ok : Bool) (after : List ℕ) (f : (z : Store) → length slots ≡ 256 → Tied z h ws → Found z (pairsOf list) ok slots after) where
-        once : repeats (pairsOf list) ≡ false
-        once = go (repeats (pairsOf list)) refl
-          where
-            go : (b : Bool) → repeats (pairsOf list) ≡ b → b ≡ false
-            go true y = absurd (omega (arith, length-pairs list, repeat-less (pairsOf list) y))
-            go false y = refl
+      pub refuse-bad : (k ≡ 0 → ⊥) → Judges h ws list room k slots after
+      refuse-bad z = by-number k (go k z)
+        where
+          go : (y : ℕ) → (y ≡ 0 → ⊥) → y ≡ orShort y room (length (pairsOf list))
+          go zero z = absurd (z refl)
+          go (suc y) z = refl
 
-        pub refuse-dead : not ok ≡ true → Judges h ws list room 8 slots after
-        unfolding listRefusal slotsAfter
-        refuse-dead y = judged 8 after (λ s long t.
-            let b : allSlots (slotsNamed s (pairsOf list)) ≡ false = sym (f s long t .all) ∙ not-true ok y in
-            record { number = rw (whole, fits, once, b); names = f s long t .names ∙ rw (whole, fits, once) })
+      module _ (z : k ≡ 0) where
+        pub refuse-short : room < length list / 2 → Judges h ws list room 9 slots after
+        refuse-short l = by-number 9 (rw (z, lt-ltb room (length (pairsOf list)) (omega (arith, length-pairs list))))
 
-        module _ (y : not ok ≡ false) where
-          alive : (s : Store) → length slots ≡ 256 → Tied s h ws → allSlots (slotsNamed s (pairsOf list)) ≡ true
-          alive s long t = sym (f s long t .all) ∙ not-false ok y
-
-          pub refuse-short : room < length list / 2 → Judges h ws list room 9 slots after
-          unfolding listRefusal slotsAfter
-          refuse-short k = judged 9 after (λ s long t.
-              let b : ltb room (length (pairsOf list)) ≡ true = lt-ltb room (length (pairsOf list)) (omega (arith, length-pairs list)) in
-              record { number = rw (whole, fits, once, alive s long t, b); names = f s long t .names ∙ rw (whole, fits, once) })
-
-          pub refuse-none : length list / 2 ≤ room → Judges h ws list room 0 slots after
-          unfolding listRefusal slotsAfter
-          refuse-none k = judged 0 after (λ s long t.
-              let b : ltb room (length (pairsOf list)) ≡ false = le-ltb room (length (pairsOf list)) (omega (arith, length-pairs list)) in
-              record { number = rw (whole, fits, once, alive s long t, b); names = f s long t .names ∙ rw (whole, fits, once) })
+        pub refuse-none : length list / 2 ≤ room → Judges h ws list room 0 slots after
+        refuse-none l = by-number 0 (rw (z, le-ltb room (length (pairsOf list)) (omega (arith, length-pairs list))))
 
 -- ---- what is shown
 

@@ -1,22 +1,27 @@
 -- Reading and taking a list in the code is the model's: the last step of the proof.
 use mathlib.Core.Path.{_≡_, refl, sym, ap, _∙_}
-use mathlib.Core.Bool.{Bool, true, false, _&&_, not, and-false}
+use mathlib.Core.Bool.{Bool, true, false}
+use mathlib.Core.Option.{Option, some, none}
 use mathlib.Core.List.{List, [], _∷_, _++_}
 use Prim.Native.Nat.{ℕ, suc, _+_, _*_, _/_, _≤_, _<_}
 use native.Mathlib.Omega.{arith}
 use borrow.Author.Tests.{ltb-true, ltb-false, le-leb, lt-leb}
 use lib.ListN.{length, getD, drop, replicate, length-map, length-replicate}
+use lib.ListN.{take as take-list}
+use lib.Seq.{take-all}
 use lib.Dec.{ltb, leb}
 use Rattle.lists.specs.Every.{Every}
 use Rattle.sampleinfo.specs.Samples.{totalOf}
 use Rattle.sampleinfo.specs.declared.NotAliveGenerationCounts.{NotAliveGenerationCounts}
 use Rattle.sampleinfo.specs.declared.Sample.{Sample}
-use Rattle.model.specs.Pairs.{Pair, repeats}
+use Rattle.model.specs.Pairs.{Pair, Bad, firstBad, noneBad}
 use Rattle.model.specs.Model as M
-use Rattle.model.specs.Model.{Model, isLive, allLive, fine, infosFor, access, accessing, step, refuse}
+use Rattle.model.specs.Model.{Model, isLive, fine, infosFor, access, accessing, step, refuse}
+use Rattle.model.specs.BadLaws.{allLive, fine-live}
 use Rattle.pairs.specs.Flat.{pairsOf, wholePairs}
 use Rattle.pairs.specs.FlatLaws.{length-pairs}
-use Rattle.store.specs.Store.{Store, slotNamed, latestSlot}
+use Rattle.pairs.specs.BadLaws.{none-dead}
+use Rattle.store.specs.Store.{Store, slotNamed, isHeld, latestSlot}
 use Rattle.index.specs.Memory.{indexOf, headOf, Tied}
 use Rattle.index.specs.MemoryLaws.{few32}
 use Rattle.index.specs.declared.Cache.{Cache}
@@ -28,13 +33,13 @@ use Rattle.refine.specs.Found.{at-below}
 use Rattle.refine.specs.Named.{insts-of, Known}
 use Rattle.refine.specs.Fold.{and-true, Names, names-of, known-of}
 use Rattle.refine.specs.Viewed.{take-store, take-table, read-store, read-table}
-use Rattle.refine.specs.Infos.{infos-is, fine-is}
-use Rattle.refine.specs.Lists.{slotsNamed, freedAll, clearedAll, markedAll, seenAt, viewedRows, slotInfos, infosAt, allSlots}
+use Rattle.refine.specs.Infos.{infos-is, first-bad-is}
+use Rattle.refine.specs.Lists.{slotsNamed, freedAll, clearedAll, markedAll, seenAt, viewedRows, slotInfos, infosAt}
 use Rattle.infos.specs.Words.{placesIn, putInfos, infosThen, wordsOfInfos}
 use Rattle.infos.specs.FlatLaws.{put-all}
 use Rattle.samples.specs.Table.{peekAt}
 use Rattle.memory.specs.Lies.{Lies, tied, table-long}
-use Rattle.access.specs.Access.{run, namedFirst, listRefusal, slotsAfter, Refuses, Judges, lastCounts, notedAll, infosBy, freedEach, settled}
+use Rattle.access.specs.Access.{run, namedFirst, numberOf, orShort, listRefusal, slotsAfter, Refuses, Judges, lastCounts, notedAll, infosBy, freedEach, settled}
 use Rattle.datasample_access.specs.declared.Listed.the-variants as listed
 use Rattle.datasample_access.specs.declared.ListOutcome.{ListOutcome}
 use Rattle.datasample_access.specs.Listed.{Told, listing, Came, notListed, Unfit, no-table, odd, listedWith, touchedAll, Served}
@@ -120,54 +125,49 @@ module _ (m : Model) (g : Good m) where
       unfine false e l = e
 
       module _ (b : ltb 256 (length ps) ≡ false) where
-        is-twice : repeats ps ≡ true → listRefusal (storeOf m) list room ≡ 8
-        unfolding listRefusal
-        is-twice c = rw (w, b, c)
+        -- the first bad pair of the model is that of the store
+        fine-held : fine m ps ≡ noneBad (firstBad (isHeld (storeOf m)) ps)
+        fine-held = ap noneBad (first-bad-is m g ps)
 
-        module _ (c : repeats ps ≡ false) where
+        number-is : listRefusal (storeOf m) list room ≡ orShort (numberOf (firstBad (isHeld (storeOf m)) ps)) room (length ps)
+        unfolding listRefusal
+        number-is = rw (w, b)
+
+        module _ (c : firstBad (isHeld (storeOf m)) ps ≡ none) where
           names-are : slotsAfter (storeOf m) list slots ≡ namedFirst (storeOf m) ps slots
           unfolding slotsAfter
-          names-are = rw (w, b, c)
+          names-are = rw (w, b) (ap (λ (qs : List Pair). namedFirst (storeOf m) qs slots)
+              (ap (λ (k : ℕ). take-list k ps) (none-dead (isHeld (storeOf m)) ps c) ∙ take-all (length ps) ps (omega arith)))
 
-          is-dead : allSlots (slotsNamed (storeOf m) ps) ≡ false → listRefusal (storeOf m) list room ≡ 8
-          unfolding listRefusal
-          is-dead d = rw (w, b, c, d)
+          is-fine : fine m ps ≡ true
+          is-fine = fine-held ∙ ap noneBad c
 
-          module _ (d : allSlots (slotsNamed (storeOf m) ps) ≡ true) where
-            is-fine : fine m ps ≡ true
-            is-fine = fine-is m g ps ∙ rw (d, c)
+          is-short : ltb room (length ps) ≡ true → listRefusal (storeOf m) list room ≡ 9
+          is-short e = number-is ∙ rw (c, e)
 
-            is-short : ltb room (length ps) ≡ true → listRefusal (storeOf m) list room ≡ 9
-            unfolding listRefusal
-            is-short e = rw (w, b, c, d, e)
+          is-none : ltb room (length ps) ≡ false → listRefusal (storeOf m) list room ≡ 0
+          is-none e = number-is ∙ rw (c, e)
 
-            is-none : ltb room (length ps) ≡ false → listRefusal (storeOf m) list room ≡ 0
-            unfolding listRefusal
-            is-none e = rw (w, b, c, d, e)
-
-            live-verdict : Verdict (listRefusal (storeOf m) list room)
-            live-verdict = split (ltb room (length ps))
-                (λ e. refusing (listRefusal (storeOf m) list room) 8 (is-short e) (short-step is-fine (ltb-true room (length ps) e)))
-                (λ e. (
-                  λ n. absurd (n (is-none e)),
-                  λ z. record {
-                    fine-list = is-fine;
-                    enough = ltb-false room (length ps) e;
-                    few = ltb-false 256 (length ps) b;
-                    done = done-step is-fine (ltb-false room (length ps) e);
-                    names = names-are;
-                  },
-                ))
-
-          once-verdict : Verdict (listRefusal (storeOf m) list room)
-          once-verdict = split (allSlots (slotsNamed (storeOf m) ps))
-              live-verdict
-              (λ d. refusing (listRefusal (storeOf m) list room) 7 (is-dead d) (unfine-step (fine-is m g ps ∙ rw d)))
+          fine-verdict : Verdict (listRefusal (storeOf m) list room)
+          fine-verdict = split (ltb room (length ps))
+              (λ e. refusing (listRefusal (storeOf m) list room) 8 (is-short e) (short-step is-fine (ltb-true room (length ps) e)))
+              (λ e. (
+                λ n. absurd (n (is-none e)),
+                λ z. record {
+                  fine-list = is-fine;
+                  enough = ltb-false room (length ps) e;
+                  few = ltb-false 256 (length ps) b;
+                  done = done-step is-fine (ltb-false room (length ps) e);
+                  names = names-are;
+                },
+              ))
 
         few-verdict : Verdict (listRefusal (storeOf m) list room)
-        few-verdict = split (repeats ps)
-            (λ c. refusing (listRefusal (storeOf m) list room) 7 (is-twice c) (unfine-step (fine-is m g ps ∙ rw c (and-false (allSlots (slotsNamed (storeOf m) ps))))))
-            once-verdict
+        few-verdict = go (firstBad (isHeld (storeOf m)) ps) refl
+          where
+            go : (x : Option Bad) → firstBad (isHeld (storeOf m)) ps ≡ x → Verdict (listRefusal (storeOf m) list room)
+            go none e = fine-verdict e
+            go (some x) e = refusing (listRefusal (storeOf m) list room) 7 (number-is ∙ rw e) (unfine-step (fine-held ∙ ap noneBad e))
 
       whole-verdict : Verdict (listRefusal (storeOf m) list room)
       whole-verdict = split (ltb 256 (length ps))
@@ -200,7 +200,7 @@ module _ (m : Model) (g : Good m) (h : Cache) (ws : List ℕ) (t : List Sample) 
   ks = slotsNamed (storeOf m) ps
 
   live : allLive m ps ≡ true
-  live = and-true (allLive m ps) (not (repeats ps)) ok .0
+  live = fine-live m ps ok
 
   every-owned : Every (Owned s) ks
   every-owned = owned m g ps live

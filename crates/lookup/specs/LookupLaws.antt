@@ -15,7 +15,7 @@ use mir.Val.{Fits}
 use mir.Syntax.{w64}
 use Rattle.lists.specs.Blocks.{filled, filled-get-or, get-map}
 use Rattle.slots.specs.Bits.{bitsOf, freeAt}
-use Rattle.store.specs.Store.{Inst, Store, placeOf, noInst, instAt, least, nextName, cellKeyed, slotKeyed, slotFor, slotNamed, laterSlot, greatestFrom, latestSlot}
+use Rattle.store.specs.Store.{Inst, Store, placeOf, noInst, instAt, least, nextName, cellKeyed, slotKeyed, slotOfKey, slotNamed, laterSlot, greatestFrom, latestSlot}
 use Rattle.store.specs.Fit.{Fit, Deep, depthOf}
 use Rattle.index.specs.Words.{region}
 use Rattle.index.specs.Memory.{nameOf, cellsOf, indexOf, View, shown, headOf, Tied, Held}
@@ -189,11 +189,11 @@ module _ (bits ws : List ℕ) (row key i : ℕ) (k : Slots bits ws row key i) wh
 
 -- ---- with or without a keep count
 
-for-none : (k : Option ℕ) (room : ℕ) (s : Store) (row key : ℕ) → Deep k room → depthOf k ≡ 0 → slotFor k s row key ≡ slotKeyed 256 0 key row s
+for-none : (k : Option ℕ) (room : ℕ) (s : Store) (row key : ℕ) → Deep k room → depthOf k ≡ 0 → slotOfKey k s row key ≡ slotKeyed 256 0 key row s
 for-none none room s row key d e = refl
 for-none (some n) room s row key d e = absurd (omega (arith, d .0))
 
-for-some : (k : Option ℕ) (s : Store) (row key : ℕ) → (depthOf k ≡ 0 → ⊥) → slotFor k s row key ≡ cellKeyed key (s .keys) (instAt s row .cells)
+for-some : (k : Option ℕ) (s : Store) (row key : ℕ) → (depthOf k ≡ 0 → ⊥) → slotOfKey k s row key ≡ cellKeyed key (s .keys) (instAt s row .cells)
 for-some none s row key h = absurd (h refl)
 for-some (some n) s row key h = refl
 
@@ -203,7 +203,7 @@ module _ (h : Cache) (ws : List ℕ) (key name row : ℕ) (w : (z : Store) → H
   locate-none m s t = rw (← (w s (held-of s h ws t)), le-ltb row (length (s .insts)) (omega (arith, ap (λ (v : View). v .held) (t .head))))
 
   module _ (m : row < h .held) where
-    named : (s : Store) → Tied s h ws → slotNamed s (pairOf key name) ≡ slotFor (s .keep) s row key
+    named : (s : Store) → Tied s h ws → slotNamed s (pairOf key name) ≡ slotOfKey (s .keep) s row key
     unfolding slotNamed
     named s t = rw (← (w s (held-of s h ws t)), lt-ltb row (length (s .insts)) (omega (arith, ap (λ (v : View). v .held) (t .head))))
 

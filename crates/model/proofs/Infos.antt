@@ -19,7 +19,8 @@ use Rattle.sampleinfo.specs.declared.Info.{Info}
 use Rattle.model.specs.Pairs.{Pair}
 use Rattle.model.specs.Views.{rankFrom}
 use Rattle.model.specs.PairLaws.{in-append}
-use Rattle.model.specs.Model.{Model, Instance, Live, find, liveIn, lives, keyed, named, present, isLive, allLive}
+use Rattle.model.specs.Model.{Model, Instance, Live, find, liveIn, lives, keyed, named, present, isLive}
+use Rattle.model.specs.BadLaws.{allLive}
 use Rattle.model.specs.Model.{later, latest, latestTotal, instanceTotal, lastTotal, infoOf, infoAt, infosOf, infosFor}
 use Rattle.model.specs.Story.{livesOf, liveAt}
 use Rattle.model.specs.Demand3.{In, IsAt, AtPlace, Latest, Shows, timesHeld}

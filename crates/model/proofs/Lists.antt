@@ -16,7 +16,8 @@ use Rattle.sampleinfo.specs.declared.Info.{Info}
 use Rattle.model.specs.Pairs.{Pair, repeats}
 use Rattle.model.specs.Views.{greater, viewed}
 use Rattle.model.specs.PairLaws.{among-in, repeats-distinct}
-use Rattle.model.specs.Model.{Model, Instance, Live, Place, gone, held, Step, refused, infos, list, refuse, find, liveIn, keyed, named, present, asRead, isLive, allLive, fine, infoAt, infosOf, infosFor, touch, listedIn, shown, accessed, listed, access, accessing, step}
+use Rattle.model.specs.Model.{Model, Instance, Live, Place, gone, held, Step, refused, infos, list, refuse, find, liveIn, keyed, named, present, asRead, isLive, fine, infoAt, infosOf, infosFor, touch, listedIn, shown, accessed, listed, access, accessing, step}
+use Rattle.model.specs.BadLaws.{allLive, fine-is-both, fine-live, fine-once}
 use Rattle.model.specs.Story.{Every, mapO, livesOf, liveAt}
 use Rattle.model.specs.Demand3.{In, LivePair, Sound, names, takes, remains, Greatest, Viewed, AtPlace, Lists, timesHeld}
 use Rattle.model.proofs.Laws.{split, find-map, find-name}
@@ -62,11 +63,11 @@ module _ (m : Model) where
   fine-sound : (ps : List Pair) → (fine m ps ≡ true) ↔ Sound m ps
   fine-sound ps = (there, back)
     where
-      there : allLive m ps && not (repeats ps) ≡ true → Sound m ps
-      there h = let b : (allLive m ps ≡ true) × (not (repeats ps) ≡ true) = both (allLive m ps) (not (repeats ps)) h in (all-live ps .0 (b .0), repeats-distinct ps .0 (not-true (repeats ps) (b .1)))
+      there : fine m ps ≡ true → Sound m ps
+      there h = (all-live ps .0 (fine-live m ps h), repeats-distinct ps .0 (fine-once m ps h))
 
-      back : Sound m ps → allLive m ps && not (repeats ps) ≡ true
-      back h = rw (all-live ps .1 (h .0), repeats-distinct ps .1 (h .1))
+      back : Sound m ps → fine m ps ≡ true
+      back h = fine-is-both m ps ∙ rw (all-live ps .1 (h .0), repeats-distinct ps .1 (h .1))
 
   -- ---- as many infos as pairs
   info-one : (f g a : ℕ) (p : Pair) → isLive m p ≡ true → length (infoAt f g a (find (p .name) (m .instances)) (named p (find (p .name) (m .instances)))) ≡ 1
@@ -251,10 +252,10 @@ module _ (m : Model) (once : (n : ℕ) → timesHeld n (m .instances) ≤ 1) (t 
     by-9 = (λ h. refused-infos (sym h), λ h. absurd (over (leb-true (length ps) room l) (h .1)));
     by-no-other = λ r h. refused-infos (sym h);
     answers = λ s q. (infosFor m ps, refl);
-    as-many = λ is h. let q : infosFor m ps ≡ is = cc in ap length (sym q) ∙ infos-length m _ _ ps (both (allLive m ps) (not (repeats ps)) e .0);
+    as-many = λ is h. let q : infosFor m ps ≡ is = cc in ap length (sym q) ∙ infos-length m _ _ ps (fine-live m ps e);
     shows = λ is h place p y u v.
         let q : infosFor m ps ≡ is = cc in
-        infos-shown m once ps (both (allLive m ps) (not (repeats ps)) e .0) place p y u (subst (λ l. AtPlace place l y) (sym q) v);
+        infos-shown m once ps (fine-live m ps e) place p y u (subst (λ l. AtPlace place l y) (sym q) v);
     exactly-those = λ s q n. stays n;
     last-accessed = λ s q n i j f g. views n i j f g;
     lives-on = life-stays;

@@ -8,3 +8,4 @@ pub mod TopicPromises
 pub mod Story
 pub mod Demand3
 pub mod PairLaws
+pub mod BadLaws

@@ -24,7 +24,7 @@ use Rattle.keys.specs.declared.Last.{Last}
 use Rattle.keys.specs.declared.Last.the-variants as last
 use Rattle.keys.specs.declared.Issued.{Issued}
 use Rattle.keys.specs.declared.Issued.the-variants as issued
-use Rattle.model.specs.Pairs.{Pair, among, repeats, Hit, sorted, pairsIn}
+use Rattle.model.specs.Pairs.{Pair, among, badFrom, firstBad, noneBad, Hit, sorted, pairsIn}
 use Rattle.model.specs.Views.{viewOf, greater, viewed, rankFrom}
 
 -- ---- the cache
@@ -250,12 +250,16 @@ refusalOf m a =
 unfoldable pub arrived : Option ℕ → Instance → Arrival → Place → Instance
 arrived k i a p = record { name = a .name; meta = becomes (i .meta) (stateIn a); places = push k (i .places) p }
 
--- "Room is made first, then the lowest free slot is used."
+-- "Room is made first": the instances once the add has pushed out what it pushes out
 unfoldable pub roomy : Model → Arrival → List Instance
 roomy m a = put (arrived (m .keep) (oldOf m a) a gone) (m .instances)
 
+-- ".. then the lowest free slot is used.": the slot of an add, by the samples held before it and those held once room is made
+abbrev pub slotFor : List Live → List Live → ℕ
+slotFor before roomy = lowestFrom 256 0 roomy
+
 unfoldable pub slotOf : Model → Arrival → ℕ
-slotOf m a = lowestFrom 256 0 (lives (roomy m a))
+slotOf m a = slotFor (lives (m .instances)) (lives (roomy m a))
 
 -- "Each sample keeps the counts as they stood after its own step."
 abbrev pub liveOf : Arrival → InstanceMetaData → ℕ → ℕ → Live
@@ -337,13 +341,9 @@ present (some s) = true
 abbrev pub isLive : Model → Pair → Bool
 isLive m p = present (named p (find (p .name) (m .instances)))
 
-unfoldable pub allLive : Model → List Pair → Bool
-allLive m [] = true
-allLive m (p ∷ ps) = isLive m p && allLive m ps
-
--- not refusal 8: "key list names a pair not live, or a pair twice"
+-- not refusal 8: no pair of the list is bad
 abbrev pub fine : Model → List Pair → Bool
-fine m ps = allLive m ps && not (repeats ps)
+fine m ps = noneBad (firstBad (isLive m) ps)
 
 -- "the latest-keyed live sample of the whole cache"
 abbrev pub later : Option Live → Live → Option Live
@@ -431,6 +431,7 @@ access t m ps = record {
 
 -- "Lists: 8, 9."
 unfoldable pub accessing : Bool → Model → List Pair → ℕ → Step
+unfolding badFrom
 accessing t m ps room =
     let done : Step = access t m ps in
     cond (fine m ps) (cond (leb (length ps) room) done (refuse m 9)) (refuse m 8)

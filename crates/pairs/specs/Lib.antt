@@ -5,3 +5,4 @@ pub mod FlatLaws
 pub mod RepeatLaws
 pub mod InsertionLaws
 pub mod OrderLaws
+pub mod BadLaws

@@ -104,7 +104,7 @@ fn grown(held: usize, row: usize) -> usize
     held + 1
 }
 
-// Room is made first, then the lowest free slot is used.
+// Room is made first, then the slot is chosen.
 fn place(
     h: Cache,
     ws: &mut [u64; 928],
@@ -128,7 +128,7 @@ fn place(
     if roomy.count() == 0 {
         return refused(h, 5);
     }
-    let slot = roomy.lowest();
+    let slot = free.slot_for(roomy);
     let taken = roomy.take(slot);
     commit(ws, depth, row, name, x, key, slot, old);
     let counts = x.latest_generation_available;

@@ -8,7 +8,8 @@ use borrow.Author.Tests.{eq-eqb, eqb-true, eqb-false, not-true}
 use lib.ListN.{getD}
 use lib.Dec.{eqb}
 use Rattle.model.specs.Pairs.{Pair, among, repeats, samePair}
-use Rattle.model.specs.Model.{Model, Instance, Live, Place, gone, held, find, liveIn, keyed, named, present, isLive, allLive, fine, mark, touch}
+use Rattle.model.specs.Model.{Model, Instance, Live, Place, gone, held, find, liveIn, keyed, named, present, isLive, fine, mark, touch}
+use Rattle.model.specs.BadLaws.{allLive, fine-is-both, fine-live, fine-once}
 use Rattle.store.specs.Store.{slotNamed, freed}
 use Rattle.refine.specs.Layout.{slotOrNone, storeOf, tableOf}
 use Rattle.refine.specs.Good.{Good}
@@ -99,13 +100,12 @@ pub record Fine (m : Model) (p : Pair) (ps : List Pair) : Type 0 where
 pub fine-first : (m : Model) (p : Pair) (ps : List Pair) → fine m (p ∷ ps) ≡ true → Fine m p ps
 unfolding allLive repeats
 fine-first m p ps h =
-    let a : (allLive m (p ∷ ps) ≡ true) × (not (repeats (p ∷ ps)) ≡ true) = and-true (allLive m (p ∷ ps)) (not (repeats (p ∷ ps))) h in
-    let b : (isLive m p ≡ true) × (allLive m ps ≡ true) = and-true (isLive m p) (allLive m ps) (a .0) in
-    let c : (among p ps ≡ false) × (repeats ps ≡ false) = either-false (among p ps) (repeats ps) (not-true (repeats (p ∷ ps)) (a .1)) in
+    let b : (isLive m p ≡ true) × (allLive m ps ≡ true) = and-true (isLive m p) (allLive m ps) (fine-live m (p ∷ ps) h) in
+    let c : (among p ps ≡ false) × (repeats ps ≡ false) = either-false (among p ps) (repeats ps) (fine-once m (p ∷ ps) h) in
     record { first = b .0; once = c .0; rest-live = b .1; rest-once = c .1 }
 
 pub fine-next : (t : Bool) (m : Model) → Good m → (p : Pair) (ps : List Pair) → Fine m p ps → fine (touchedBy t m (p ∷ [])) ps ≡ true
-fine-next t m g p ps f = rw (live-kept t m g p ps (f .once), f .rest-live, f .rest-once)
+fine-next t m g p ps f = fine-is-both (touchedBy t m (p ∷ [])) ps ∙ rw (live-kept t m g p ps (f .once), f .rest-live, f .rest-once)
 
 -- the sample that a live pair names
 pub record Names (m : Model) (p : Pair) : Type 0 where

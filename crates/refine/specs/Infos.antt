@@ -1,18 +1,19 @@
 -- The infos of a list, and whether it is fine, on the slots that it names.
 use mathlib.Core.Path.{_≡_, refl, ap, _∙_}
-use mathlib.Core.Bool.{true, _&&_, not}
-use mathlib.Core.List.{List, [], _∷_}
+use mathlib.Core.Bool.{true, _&&_}
+use mathlib.Core.List.{List, [], _∷_, _++_}
 use Prim.Native.Nat.{ℕ}
 use lib.ListN.{length-map}
-use Rattle.model.specs.Pairs.{Pair, repeats}
-use Rattle.model.specs.Model.{Model, isLive, allLive, fine, lastTotal, infosOf, infosFor}
-use Rattle.store.specs.Store.{placeOf, instAt, slotNamed}
+use Rattle.model.specs.Pairs.{Pair, badFrom, firstBad}
+use Rattle.model.specs.Model.{Model, isLive, lastTotal, infosOf, infosFor}
+use Rattle.model.specs.BadLaws.{allLive}
+use Rattle.store.specs.Store.{placeOf, instAt, slotNamed, isHeld}
 use Rattle.refine.specs.Layout.{instOf, storeOf, tableOf}
 use Rattle.refine.specs.Good.{Good}
 use Rattle.refine.specs.Named.{insts-of, inst-here, live-is}
 use Rattle.refine.specs.Latest.{latest-total}
 use Rattle.refine.specs.Fold.{and-true, Names, names-of, known-of}
-use Rattle.refine.specs.Lists.{slotsNamed, ownerAt, lastOwned, slotInfos, infosAt, allSlots}
+use Rattle.refine.specs.Lists.{slotsNamed, ownerAt, lastOwned, slotInfos, infosAt}
 
 module _ (m : Model) (g : Good m) where
   owner-is : (p : Pair) (n : Names m p) → ownerAt (storeOf m) (slotNamed (storeOf m) p) ≡ instOf (m .keep) (n .i)
@@ -39,11 +40,11 @@ module _ (m : Model) (g : Good m) where
   pub infos-is : (ps : List Pair) → allLive m ps ≡ true → infosFor m ps ≡ infosAt (storeOf m) (tableOf m) (slotsNamed (storeOf m) ps)
   infos-is ps l = rw (last-is ps l, ← (latest-total m g)) (infos-are _ _ ps l)
 
-  all-live-is : (ps : List Pair) → allLive m ps ≡ allSlots (slotsNamed (storeOf m) ps)
-  unfolding allLive allSlots
-  all-live-is [] = refl
-  all-live-is (p ∷ ps) = rw (live-is m g p, all-live-is ps)
+  bad-from-is : (before ps : List Pair) → badFrom (isLive m) before ps ≡ badFrom (isHeld (storeOf m)) before ps
+  unfolding badFrom
+  bad-from-is before [] = refl
+  bad-from-is before (p ∷ ps) = rw (live-is m g p, bad-from-is (before ++ p ∷ []) ps)
 
-  -- "key list names a pair not live, or a pair twice"
-  pub fine-is : (ps : List Pair) → fine m ps ≡ allSlots (slotsNamed (storeOf m) ps) && not (repeats ps)
-  fine-is ps = rw (all-live-is ps)
+  -- "key list names a pair not live, or a pair twice": the same pair is the first bad one
+  pub first-bad-is : (ps : List Pair) → firstBad (isLive m) ps ≡ firstBad (isHeld (storeOf m)) ps
+  first-bad-is ps = bad-from-is [] ps

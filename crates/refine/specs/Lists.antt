@@ -74,8 +74,3 @@ slotInfos mrsic mrs s t (k ∷ ks) = infoWith (length ks) mrsic mrs (ownerAt s k
 
 abbrev pub infosAt : Store → List Sample → List ℕ → List Info
 infosAt s t ks = slotInfos (lastOwned s ks) (totalOf (getD t (latestSlot s) emptySample)) s t ks
-
--- not refusal 8, on the slots: every one is a slot, and no pair stands twice
-unfoldable pub allSlots : List ℕ → Bool
-allSlots [] = true
-allSlots (k ∷ ks) = ltb k 256 && allSlots ks

@@ -14,7 +14,7 @@ use Rattle.slots.specs.Bits.{freeAt}
 use Rattle.sampleinfo.specs.Samples.{emptySample}
 use Rattle.model.specs.Pairs.{Pair}
 use Rattle.model.specs.Model.{Model, Instance, Live, Place, gone, held, find, liveIn, lives, count, keyed, named, present, isLive}
-use Rattle.store.specs.Store.{Inst, Store, placeOf, noInst, cellKeyed, slotKeyed, slotFor, slotNamed, instAt}
+use Rattle.store.specs.Store.{Inst, Store, placeOf, noInst, cellKeyed, slotKeyed, slotOfKey, slotNamed, instAt}
 use Rattle.refine.specs.Layout.{cellOf, instOf, Entry, entry, entriesOf, lookUp, slotOrNone, freeOf, keyOf, ownerOf, sampleOf, storeOf, tableOf}
 use Rattle.refine.specs.Good.{Good, hasKey, reached}
 use Rattle.refine.specs.Tables.{bit-le, split, livesIn, slot-at}
@@ -171,10 +171,10 @@ module _ (m : Model) (g : Good m) where
     unfolding storeOf
     inst-here = get-inst (m .keep) (m .instances) row noInst nobody (at-below m g n i e) ∙ ap (instOf (m .keep)) (at-is m g n i e)
 
-    slot-for : slotFor (m .keep) (storeOf m) row key ≡ slotOrNone (keyed key ss)
+    slot-for : slotOfKey (m .keep) (storeOf m) row key ≡ slotOrNone (keyed key ss)
     slot-for = go (m .keep) refl
       where
-        go : (k : Option ℕ) → m .keep ≡ k → slotFor k (storeOf m) row key ≡ slotOrNone (keyed key ss)
+        go : (k : Option ℕ) → m .keep ≡ k → slotOfKey k (storeOf m) row key ≡ slotOrNone (keyed key ss)
         go none q = all-slots
         go (some d) q =
             let c : instAt (storeOf m) row .cells ≡ map cellOf (i .places) = ap (λ (x : Inst). x .cells) inst-here ∙ rw q in
@@ -187,7 +187,7 @@ module _ (m : Model) (g : Good m) where
   keep-of = refl
 
   named-as : (p : Pair) → slotNamed (storeOf m) p ≡ cond (ltb (placeOf (p .name) (insts (m .keep) (m .instances))) (length (m .instances)))
-      (slotFor (m .keep) (storeOf m) (placeOf (p .name) (insts (m .keep) (m .instances))) (p .key)) 256
+      (slotOfKey (m .keep) (storeOf m) (placeOf (p .name) (insts (m .keep) (m .instances))) (p .key)) 256
   unfolding slotNamed storeOf
   named-as p = rw (length-map (m .instances) (instOf (m .keep)))
 
@@ -195,7 +195,7 @@ module _ (m : Model) (g : Good m) where
   slot-named p = named-as p ∙ go (find (p .name) (m .instances)) refl
     where
       go : (o : Option Instance) → find (p .name) (m .instances) ≡ o
-          → cond (ltb (placeOf (p .name) (insts (m .keep) (m .instances))) (length (m .instances))) (slotFor (m .keep) (storeOf m) (placeOf (p .name) (insts (m .keep) (m .instances))) (p .key)) 256
+          → cond (ltb (placeOf (p .name) (insts (m .keep) (m .instances))) (length (m .instances))) (slotOfKey (m .keep) (storeOf m) (placeOf (p .name) (insts (m .keep) (m .instances))) (p .key)) 256
           ≡ slotOrNone (named p o)
       go none f = rw (le-ltb (placeOf (p .name) (insts (m .keep) (m .instances))) (length (m .instances)) (omega (arith, unknown-at (m .keep) (p .name) (m .instances) f)))
       go (some i) f = rw (lt-ltb (placeOf (p .name) (insts (m .keep) (m .instances))) (length (m .instances)) (at-below m g (p .name) i f)) (slot-for (p .name) i f (p .key))

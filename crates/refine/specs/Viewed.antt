@@ -15,7 +15,8 @@ use Rattle.sampleinfo.specs.Counts.{accessedAt}
 use Rattle.sampleinfo.specs.Samples.{emptySample, totalOf}
 use Rattle.model.specs.Pairs.{Pair, among, repeats}
 use Rattle.model.specs.Views.{greater}
-use Rattle.model.specs.Model.{Model, Instance, Live, find, liveIn, lives, count, keyed, allLive, isLive, fine, listedIn, shown, listed, access}
+use Rattle.model.specs.Model.{Model, Instance, Live, find, liveIn, lives, count, keyed, isLive, fine, listedIn, shown, listed, access}
+use Rattle.model.specs.BadLaws.{allLive, fine-live}
 use Rattle.store.specs.Store.{Inst, Store, placeOf, noInst, slotNamed, withMeta, withAccessed}
 use Rattle.refine.specs.Layout.{instOf, entriesFrom, slotsOf, sampleOf, storeOf, tableOf}
 use Rattle.refine.specs.Good.{Good, hasKey, timesHeld}
@@ -272,7 +273,7 @@ module _ (t : Bool) (m : Model) (g : Good m) (ps : List Pair) (l : allLive m ps 
 
 module _ (m : Model) (g : Good m) (ps : List Pair) (ok : fine m ps ≡ true) where
   live : allLive m ps ≡ true
-  live = and-true (allLive m ps) (not (repeats ps)) ok .0
+  live = fine-live m ps ok
 
   abbrev now : Store
   now = storeOf m

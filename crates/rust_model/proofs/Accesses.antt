@@ -20,7 +20,8 @@ use Rattle.sampleinfo.specs.declared.Sample.{Sample}
 use Rattle.model.specs.Pairs.{Pair, repeats}
 use Rattle.model.specs.PairLaws.{pair-is, repeats-distinct}
 use Rattle.model.specs.Views.{rankFrom, viewed}
-use Rattle.model.specs.Model.{Model, Live, Instance, find, nextName, liveIn, lives, keyed, named, present, isLive, allLive, fine, latest, latestTotal, lastTotal, viewIn, infoOf, infoAt, infosOf, infosFor, shown, touch, listed, access}
+use Rattle.model.specs.Model.{Model, Live, Instance, find, nextName, liveIn, lives, keyed, named, present, isLive, fine, latest, latestTotal, lastTotal, viewIn, infoOf, infoAt, infosOf, infosFor, shown, touch, listed, access}
+use Rattle.model.specs.BadLaws.{allLive, fine-live, fine-once}
 use Rattle.model.specs.Story.{Entry as Told, Every, AtMost, mapO, untaken, entryKeys, touchEntry}
 use Rattle.model.specs.Demand3.{In, Distinct, timesHeld}
 use Rattle.model.proofs.Laws.{split, every-imp, find-name, find-map, placesOf, places-touch}
@@ -273,10 +274,10 @@ module _ (m : Model) (c : DataSampleCache) (log : List Kept) (h : Alike m c log)
   }
     where
       fs : Every Facts (p ∷ ps)
-      fs = all-facts (p ∷ ps) (both (allLive m (p ∷ ps)) (not (repeats (p ∷ ps))) e .0)
+      fs = all-facts (p ∷ ps) (fine-live m (p ∷ ps) e)
 
       apart : KeysApart (p ∷ ps)
-      apart = keys-apart (p ∷ ps) fs (repeats-distinct (p ∷ ps) .0 (not-true (repeats (p ∷ ps)) (both (allLive m (p ∷ ps)) (not (repeats (p ∷ ps))) e .1)))
+      apart = keys-apart (p ∷ ps) fs (repeats-distinct (p ∷ ps) .0 (fine-once m (p ∷ ps) e))
 
       gens : Generations
       gens = gensAfter (samples log) [] (p ∷ ps)

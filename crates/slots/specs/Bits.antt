@@ -33,3 +33,7 @@ after (suc d) t = zero
 unfoldable pub firstOne : List ℕ → ℕ
 firstOne [] = 0
 firstOne (b ∷ bs) = after b (firstOne bs)
+
+-- the slot of an add, by what was free before it and what is free once it has made room: "then the lowest free slot is used"
+abbrev pub slotFor : List ℕ → List ℕ → ℕ
+slotFor free roomy = firstOne roomy

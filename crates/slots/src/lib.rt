@@ -2,7 +2,7 @@
 ghost use mathlib.Core.Path.{_≡_};
 ghost use Prim.Native.Nat.{_+_, _<_};
 ghost use lib.ListN.{set, replicate};
-ghost use Rattle.slots.specs.Bits.{bitsOf, total, firstOne, freeAt};
+ghost use Rattle.slots.specs.Bits.{bitsOf, total, firstOne, slotFor, freeAt};
 
 // The free slots of 256: one bit each, set where the slot is free, in four words from the lowest bit up.
 pub struct Free {
@@ -47,6 +47,13 @@ impl Free {
             i += 1;
         }
         256
+    }
+
+    // The slot of an add: these were free before it, and `roomy` are once it has made room. 256 where none is.
+    pub fn slot_for(self, roomy: Free) -> usize
+        ensures { λ r. ⌜ r ≡ slotFor (bitsOf (self .words)) (bitsOf (roomy .words)) ⌝ }
+    {
+        roomy.lowest()
     }
 
     // Whether the slot is free. A number past the last slot is not.

@@ -6,7 +6,7 @@ use Prim.Native.Nat.{ℕ, zero, suc, _+_}
 use lib.ListN.{length, getD, set, drop, replicate}
 use lib.Dec.{ltb, leb, eqb}
 use Rattle.lists.specs.Blocks.{putAt}
-use Rattle.slots.specs.Bits.{firstOne, freeAt}
+use Rattle.slots.specs.Bits.{firstOne, slotFor, freeAt}
 use Rattle.keys.specs.Keys.{keyOf}
 use Rattle.keys.specs.declared.Last.{Last}
 use Rattle.keys.specs.declared.Last.the-variants as last
@@ -113,7 +113,7 @@ unfoldable pub placing : Store → ℕ → Inst → ℕ → Step
 unfolding filling firstOne
 placing s at y key =
     let old : ℕ = oldest (s .keep) (y .cells) in
-    let slot : ℕ = firstOne (set (s .free) old 1) in
+    let slot : ℕ = slotFor (s .free) (set (s .free) old 1) in
     cond (ltb slot 256) (filling s at y key old slot) (declined 5 s)
 
 abbrev pub living : Store → ℕ → Inst → ℕ → Stepped → Step
@@ -175,13 +175,16 @@ slotKeyed (suc n) k key at s =
     let r : ℕ = slotKeyed n (k + 1) key at s in
     cond (not (freeAt (s .free) k) && (eqb (getD (s .keys) k 0) key && eqb (getD (s .owners) k 0) at)) k r
 
-abbrev pub slotFor : Option ℕ → Store → ℕ → ℕ → ℕ
-slotFor none s at key = slotKeyed 256 0 key at s
-slotFor (some d) s at key = cellKeyed key (s .keys) (instAt s at .cells)
+abbrev pub slotOfKey : Option ℕ → Store → ℕ → ℕ → ℕ
+slotOfKey none s at key = slotKeyed 256 0 key at s
+slotOfKey (some d) s at key = cellKeyed key (s .keys) (instAt s at .cells)
 
 unfoldable pub slotNamed : Store → Pair → ℕ
 unfolding placeOf cellKeyed slotKeyed
-slotNamed s p = let at : ℕ = placeOf (p .name) (s .insts) in cond (ltb at (length (s .insts))) (slotFor (s .keep) s at (p .key)) 256
+slotNamed s p = let at : ℕ = placeOf (p .name) (s .insts) in cond (ltb at (length (s .insts))) (slotOfKey (s .keep) s at (p .key)) 256
+
+abbrev pub isHeld : Store → Pair → Bool
+isHeld s p = ltb (slotNamed s p) 256
 
 -- ---- taking, and what was accessed
 

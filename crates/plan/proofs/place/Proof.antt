@@ -31,8 +31,8 @@ refused-requires-3 c κs = search needs
 returns-3 : tie.Need-returns-3
 returns-3 c = search (needs, place-full)
 
-lowest-requires : tie.Need-lowest-requires
-lowest-requires c κs = search needs
+slot-for-requires : tie.Need-slot-for-requires
+slot-for-requires c κs = search needs
 
 take-requires : tie.Need-take-requires
 take-requires c κs = search needs
@@ -50,4 +50,4 @@ pub place-spec : {M : Type 1} → statement M
 place-spec =
     tie.close
     (tie.spec refused-requires returns refused-requires-2 returns-2 oldest-requires give-requires count-requires refused-requires-3
-    returns-3 lowest-requires take-requires commit-requires grown-requires returns-4)
+    returns-3 slot-for-requires take-requires commit-requires grown-requires returns-4)
