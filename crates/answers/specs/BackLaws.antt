@@ -14,6 +14,7 @@ use Rattle.infos.specs.BackLaws.{info-back}
 use Rattle.infos.specs.FlatLaws.{length-words, words-append}
 use Rattle.printing.specs.Printout.{infoLine}
 use Rattle.bounds.specs.Small.{SmallInfo}
+use Rattle.answers.specs.Sizes.{infoSize}
 use Rattle.answers.specs.Says.{Shown}
 
 -- ---- one info
@@ -69,8 +70,8 @@ module _ (n : ℕ) (is : List ℕ) (xs : List Info) (s : Shown n is xs) where
   pub few : n ≤ placesIn is
   unfolding infosThen
   few =
-      let whole : length is ≡ length (wordsOfInfos xs ++ drop (27 * length xs) is) = ap length (s .words) in
-      omega (arith, s .count, whole, length-append (wordsOfInfos xs) (drop (27 * length xs) is), length-words xs)
+      let whole : length is ≡ length (wordsOfInfos xs ++ drop (infoSize * length xs) is) = ap length (s .words) in
+      omega (arith, s .count, whole, length-append (wordsOfInfos xs) (drop (infoSize * length xs) is), length-words xs)
 
   pub line-at : (p : ℕ) → p < n → infoLine (getInfo is p) ≡ infoLine (getD xs p noInfo)
   unfolding getInfo infosThen wordsOfInfos
@@ -78,10 +79,10 @@ module _ (n : ℕ) (is : List ℕ) (xs : List Info) (s : Shown n is xs) where
       let k : p < length xs = omega (arith, s .count) in
       let x : Info = getD xs p noInfo in
       let a : List ℕ = wordsOfInfos (take p xs) in
-      let long : length a ≡ 27 * p = length-words (take p xs) ∙ rw (length-take-le p xs (omega arith)) in
-      let rest : List ℕ = wordsOfInfos (drop (suc p) xs) ++ drop (27 * length xs) is in
+      let long : length a ≡ infoSize * p = length-words (take p xs) ∙ rw (length-take-le p xs (omega arith)) in
+      let rest : List ℕ = wordsOfInfos (drop (suc p) xs) ++ drop (infoSize * length xs) is in
       let apart : xs ≡ take p xs ++ x ∷ drop (suc p) xs = sym (take-append-drop p xs) ∙ rw (drop-cons xs p noInfo k) in
       let words : wordsOfInfos xs ≡ a ++ (infoWords x ++ wordsOfInfos (drop (suc p) xs)) = ap wordsOfInfos apart ∙ words-append (take p xs) (x ∷ drop (suc p) xs) in
       let split : is ≡ a ++ (infoWords x ++ rest) =
-      s .words ∙ ap (λ (w : List ℕ). w ++ drop (27 * length xs) is) words ∙ simp append-assoc in
-      rw (lt-ltb p (placesIn is) (omega (arith, few))) (ap (λ (l : List ℕ). infoLine (infoIn l (27 * p))) split ∙ rw (← long) (line-back x a rest (every-at xs p (s .small) k)))
+      s .words ∙ ap (λ (w : List ℕ). w ++ drop (infoSize * length xs) is) words ∙ simp append-assoc in
+      rw (lt-ltb p (placesIn is) (omega (arith, few))) (ap (λ (l : List ℕ). infoLine (infoIn l (infoSize * p))) split ∙ rw (← long) (line-back x a rest (every-at xs p (s .small) k)))

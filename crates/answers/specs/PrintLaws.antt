@@ -14,11 +14,12 @@ use Rattle.pairs.specs.FlatLaws.{noPair, length-pairs, pair-at}
 use Rattle.infos.specs.Words.{noInfo, getInfo}
 use Rattle.printing.specs.declared.Maybe.{Maybe}
 use Rattle.printing.specs.Printout.{selectedWord, samplesWord, numberLine, pairLine, pairLines, infoLine, infoLines, printed}
-use Rattle.printing.specs.Lines.{numberIn, Lined, Laid}
+use Rattle.printing.specs.Lines.{lineRoom, numberIn, Lined, Laid}
 use Rattle.printing.specs.LineLaws.{laid-then}
 use Rattle.printing.specs.AnswerLaws.{number-line-length, pair-lines-length, info-lines-length, refused-length, ok-length, added-length, next-length, line-laid, pairs-turn, infos-turn}
 use Rattle.answers.specs.declared.Reply.{Reply}
 use Rattle.answers.specs.declared.Reply.the-variants as reply
+use Rattle.answers.specs.Sizes.{most, pairsSize, infosSize, linesSize}
 use Rattle.answers.specs.Says.{Shown, Shows, Says}
 use Rattle.answers.specs.SoFar.{PairsTo, InfosTo}
 use Rattle.answers.specs.BackLaws.{few, line-at}
@@ -29,8 +30,8 @@ laid-none : (l : List ℕ) (at : ℕ) → at ≤ length l → Laid l at [] l at
 laid-none l at h = record { fits = omega arith; bytes = sym (rw (add-zero at, append-nil (take at l)) (take-append-drop at l)); place = omega arith; long = refl }
 
 -- from place 0 on there is room for a line
-module _ (l out : List ℕ) (q : ℕ) (room : length l ≡ 66048) where
-  first-laid : (s : List ℕ) → Lined l 0 s out q → length s ≤ 256 → Laid l 0 s out q
+module _ (l out : List ℕ) (q : ℕ) (room : length l ≡ linesSize) where
+  first-laid : (s : List ℕ) → Lined l 0 s out q → length s ≤ lineRoom → Laid l 0 s out q
   first-laid s a h = line-laid l 0 s out q a (omega arith) h
 
   -- the line that says how many there are
@@ -57,7 +58,7 @@ module _ (l mid out : List ℕ) (n from at p q : ℕ) where
       → p < n → PairsTo ps n l from out q (p + 1)
   pairs-next ps s b less = record { here = omega arith; long = s .long; near = s .near; laid = next }
     where
-      next : n ≤ 256 → n ≤ length (pairsOf ps) → Laid l from (pairLines (take (p + 1) (pairsOf ps))) out q
+      next : n ≤ most → n ≤ length (pairsOf ps) → Laid l from (pairLines (take (p + 1) (pairsOf ps))) out q
       next few h =
           let a : Laid l from (pairLines (take p (pairsOf ps))) mid at = s .laid few h in
           let k : p < length ps / 2 = omega (arith, length-pairs ps) in
@@ -66,7 +67,7 @@ module _ (l mid out : List ℕ) (n from at p q : ℕ) where
           (pairs-turn l from [] mid out at q (take p (pairsOf ps)) (pairAt (getD ps (2 * p) 0) (getD ps (2 * p + 1) 0)) a b (omega (arith, a .place, s .near, s .long)))
 
   pub infos-next : (is : List ℕ) (i : Info) → InfosTo is n l from mid at p → i ≡ getInfo is p → Lined mid at (infoLine i) out q
-      → p < n → length is ≡ 6912 → InfosTo is n l from out q (p + 1)
+      → p < n → length is ≡ infosSize → InfosTo is n l from out q (p + 1)
   infos-next is i s e b less words = record { here = omega arith; long = s .long; near = s .near; laid = next }
     where
       next : (xs : List Info) → Shown n is xs → Laid l from (infoLines (take (p + 1) xs)) out q
@@ -80,9 +81,9 @@ module _ (l mid out : List ℕ) (n from at p q : ℕ) where
 
 -- ---- the ends of the loops
 
-module _ (l mid out : List ℕ) (n from at p : ℕ) (room : length l ≡ 66048) where
+module _ (l mid out : List ℕ) (n from at p : ℕ) (room : length l ≡ linesSize) where
   pub pairs-end : (ps : List ℕ) → Lined l 0 (numberLine selectedWord n) mid from → PairsTo ps n mid from out at p → n ≤ p
-      → n ≤ 256 → n ≤ length (pairsOf ps) → Laid l 0 (printed (selected (take n (pairsOf ps)))) out at
+      → n ≤ most → n ≤ length (pairsOf ps) → Laid l 0 (printed (selected (take n (pairsOf ps)))) out at
   unfolding printed
   pairs-end ps a s last few h =
       let e : p ≡ n = omega arith in
@@ -99,12 +100,12 @@ module _ (l mid out : List ℕ) (n from at p : ℕ) (room : length l ≡ 66048) 
       (laid-then l 0 (numberLine samplesWord n) mid from (infoLines xs) out at (count-laid l mid from room samplesWord n (omega arith) a) (rw (take-length xs) at b))
 
 -- where the words have no n pairs, nothing is told
-pub pairs-over : (l out ps : List ℕ) (n at p : ℕ) → p < n → length ps / 2 ≤ p → n ≤ 256 → n ≤ length (pairsOf ps) → Laid l 0 (printed (selected (take n (pairsOf ps)))) out at
+pub pairs-over : (l out ps : List ℕ) (n at p : ℕ) → p < n → length ps / 2 ≤ p → n ≤ most → n ≤ length (pairsOf ps) → Laid l 0 (printed (selected (take n (pairsOf ps)))) out at
 pairs-over l out ps n at p less full few h = absurd (omega (arith, length-pairs ps))
 
 -- ---- the arms of print
 
-module _ (l out ps is : List ℕ) (q : ℕ) (r : Reply) (room : length l ≡ 66048) where
+module _ (l out ps is : List ℕ) (q : ℕ) (r : Reply) (room : length l ≡ linesSize) where
   pub refused-said : (n : ℕ) → r ≡ reply.Refused n → Lined l 0 (printed (refused n)) out q → (a : Answer) → Says r ps is a → Laid l 0 (printed a) out q
   refused-said n e b a s = let z : a ≡ refused n = rw e at s in rw z (first-laid l out q room (printed (refused n)) b (refused-length n))
 
@@ -118,7 +119,7 @@ module _ (l out ps is : List ℕ) (q : ℕ) (r : Reply) (room : length l ≡ 660
   next-said x e b a s = let z : a ≡ next (numberIn x) = rw e at s in rw z (first-laid l out q room (printed (next (numberIn x))) b (next-length (numberIn x)))
 
 module _ (l out ps is : List ℕ) (q n : ℕ) (r : Reply) where
-  pub selected-said : r ≡ reply.Selected n → (n ≤ 256 → n ≤ length (pairsOf ps) → Laid l 0 (printed (selected (take n (pairsOf ps)))) out q) → length ps ≡ 512 → (a : Answer) → Says r ps is a → Laid l 0 (printed a) out q
+  pub selected-said : r ≡ reply.Selected n → (n ≤ most → n ≤ length (pairsOf ps) → Laid l 0 (printed (selected (take n (pairsOf ps)))) out q) → length ps ≡ pairsSize → (a : Answer) → Says r ps is a → Laid l 0 (printed a) out q
   selected-said e f words a s =
       let z : (a ≡ selected (take n (pairsOf ps))) × (n ≤ length (pairsOf ps)) = rw e at s in
       rw (z .0) (f (omega (arith, length-pairs ps)) (z .1))

@@ -6,17 +6,18 @@ use lib.ListN.{length, take}
 use Rattle.sampleinfo.specs.declared.Info.{Info}
 use Rattle.pairs.specs.Flat.{pairsOf}
 use Rattle.printing.specs.Printout.{pairLines, infoLines}
-use Rattle.printing.specs.Lines.{Laid}
+use Rattle.printing.specs.Lines.{lineRoom, Laid}
+use Rattle.answers.specs.Sizes.{most, linesSize}
 use Rattle.answers.specs.Says.{Shown}
 
 pub record PairsTo (ps : List ℕ) (n : ℕ) (l : List ℕ) (from : ℕ) (out : List ℕ) (at p : ℕ) : Type 0 where
   pub here : p ≤ n
-  pub long : length l ≡ 66048
-  pub near : from ≤ 256
-  pub laid : n ≤ 256 → n ≤ length (pairsOf ps) → Laid l from (pairLines (take p (pairsOf ps))) out at
+  pub long : length l ≡ linesSize
+  pub near : from ≤ lineRoom
+  pub laid : n ≤ most → n ≤ length (pairsOf ps) → Laid l from (pairLines (take p (pairsOf ps))) out at
 
 pub record InfosTo (is : List ℕ) (n : ℕ) (l : List ℕ) (from : ℕ) (out : List ℕ) (at p : ℕ) : Type 0 where
   pub here : p ≤ n
-  pub long : length l ≡ 66048
-  pub near : from ≤ 256
+  pub long : length l ≡ linesSize
+  pub near : from ≤ lineRoom
   pub laid : (xs : List Info) → Shown n is xs → Laid l from (infoLines (take p xs)) out at

@@ -8,6 +8,7 @@ ghost use Rattle.model.specs.Model.{Answer, selected};
 ghost use Rattle.pairs.specs.Flat.{pairsOf};
 ghost use Rattle.printing.specs.Printout.{printed};
 ghost use Rattle.printing.specs.Lines.{Laid};
+ghost use Rattle.answers.specs.Sizes.{most};
 ghost use Rattle.answers.specs.Says.{Shown, Says};
 use printing::Maybe;
 
@@ -21,10 +22,22 @@ pub enum Reply {
     Next(Maybe),
 }
 
-// A line that says how many there are, and a line for each pair. The buffer has 258 times the 256 bytes that a line asks for: room for
-// all of 256 pairs or infos.
-fn pair_lines(pairs: &[u64], n: usize, line: &mut [u8; 66048]) -> usize
-    ensures { λ r. ⌜ (n ≤ 256 → n ≤ length (pairsOf (now (pairs .entry))) → Laid (now (line .entry)) 0 (printed (selected (take n (pairsOf (now (pairs .entry)))))) (now (line .exit)) r) ⌝ }
+impl Reply {
+    // How many pairs or infos there can be: as many as there are slots.
+    pub const MOST: usize = 256;
+
+    // The words of the lent pairs and of the lent infos.
+    pub const PAIRS_SIZE: usize = 2 * Reply::MOST;
+
+    pub const INFOS_SIZE: usize = infos::InfoWords::WORDS * Reply::MOST;
+
+    // The bytes of the lent lines: the line that says how many there are, a line for each, and as much room again as is asked for one.
+    pub const LINES_SIZE: usize = printing::LINE_ROOM * (Reply::MOST + 2);
+}
+
+// A line that says how many there are, and a line for each pair.
+fn pair_lines(pairs: &[u64], n: usize, line: &mut [u8; Reply::LINES_SIZE]) -> usize
+    ensures { λ r. ⌜ (n ≤ most → n ≤ length (pairsOf (now (pairs .entry))) → Laid (now (line .entry)) 0 (printed (selected (take n (pairsOf (now (pairs .entry)))))) (now (line .exit)) r) ⌝ }
 {
     let mut at = printing::selected_line(line, 0, n as u64);
     let mut p = 0;
@@ -41,7 +54,11 @@ fn pair_lines(pairs: &[u64], n: usize, line: &mut [u8; 66048]) -> usize
 }
 
 // A line that says how many there are, and a line for each info.
-fn info_lines(infos: &[u64; 6912], n: usize, line: &mut [u8; 66048]) -> usize
+fn info_lines(
+    infos: &[u64; Reply::INFOS_SIZE],
+    n: usize,
+    line: &mut [u8; Reply::LINES_SIZE],
+) -> usize
     ensures { λ r. ⌜ ((xs : List Info) → Shown n (now (infos .entry)) xs → Laid (now (line .entry)) 0 (printed (model.infos xs)) (now (line .exit)) r) ⌝ }
 {
     let mut at = printing::samples_line(line, 0, n as u64);
@@ -54,7 +71,12 @@ fn info_lines(infos: &[u64; 6912], n: usize, line: &mut [u8; 66048]) -> usize
 }
 
 // The lines of an answer go to the front of the lent bytes; the answer is how many bytes they are.
-pub fn print(r: Reply, pairs: &[u64; 512], infos: &[u64; 6912], line: &mut [u8; 66048]) -> usize
+pub fn print(
+    r: Reply,
+    pairs: &[u64; Reply::PAIRS_SIZE],
+    infos: &[u64; Reply::INFOS_SIZE],
+    line: &mut [u8; Reply::LINES_SIZE],
+) -> usize
     ensures { λ n. ⌜ ((a : Answer) → Says r (now (pairs .entry)) (now (infos .entry)) a → Laid (now (line .entry)) 0 (printed a) (now (line .exit)) n) ⌝ }
 {
     match r {

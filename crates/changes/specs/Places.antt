@@ -6,7 +6,7 @@ use Prim.Native.Nat.{ℕ, zero, suc, _+_, _-_, _*_, _/_, _%_, _≤_, _<_}
 use lib.ListN.{length, getD, take, drop, set, replicate}
 use lib.Dec.{leb}
 use Rattle.lists.specs.Blocks.{flat, filled}
-use Rattle.model.specs.Topic.{Entry, within}
+use Rattle.model.specs.Topic.{Entry, within, places}
 use Rattle.changes.specs.declared.Row.{Row}
 use Rattle.changes.specs.declared.CacheChange.{CacheChange}
 use Rattle.changes.specs.declared.Kept.{Kept}
@@ -46,13 +46,17 @@ cells x = x .key ∷ x .seq ∷ x .low ∷ x .high ∷ x .handle ∷ x .size ∷
 abbrev pub lineOf : Entry → List ℕ
 lineOf e = cells (rowOf e)
 
--- "384 places", six words each, the oldest first, and zeros behind the last
+-- "384 places", six words each
+abbrev pub tableSize : ℕ
+tableSize = 6 * places
+
+-- the oldest first, and zeros behind the last
 unfoldable pub wordsOf : List Entry → List ℕ
-wordsOf es = filled 6 2304 0 (map lineOf es)
+wordsOf es = filled 6 tableSize 0 (map lineOf es)
 
 -- the words are those of the entries, and held is their number
 pub record Holds (es : List Entry) (held : ℕ) (ws : List ℕ) : Type 0 where
-  pub few : length es ≤ 384
+  pub few : length es ≤ places
   pub number : held ≡ length es
   pub words : ws ≡ wordsOf es
 

@@ -11,7 +11,7 @@ use lib.Seq.{drop-nil, drop-append-le, drop-append-add, drop-drop, take-at, drop
 use Rattle.lists.specs.Blocks.{flat, filled, Even, even-map, length-flat, flat-append, filled-get, get-map}
 use Rattle.model.specs.Topic.{Entry}
 use Rattle.changes.specs.declared.Row.{Row}
-use Rattle.changes.specs.Places.{none, rowOf, cells, lineOf, wordsOf, Holds, shownIn, movedDown, cleared, putRow, rowAt}
+use Rattle.changes.specs.Places.{tableSize, none, rowOf, cells, lineOf, wordsOf, Holds, shownIn, movedDown, cleared, putRow, rowAt}
 
 line-long : (e : Entry) → length (lineOf e) ≡ 6
 line-long e = refl
@@ -22,7 +22,7 @@ lines-even es = even-map 6 lineOf line-long es
 pub flat-long : (es : List Entry) → length (flat (map lineOf es)) ≡ 6 * length es
 flat-long es = length-flat 6 (map lineOf es) (lines-even es) ∙ rw length-map
 
-pub words-is : (es : List Entry) → wordsOf es ≡ flat (map lineOf es) ++ replicate (2304 - 6 * length es) 0
+pub words-is : (es : List Entry) → wordsOf es ≡ flat (map lineOf es) ++ replicate (tableSize - 6 * length es) 0
 unfolding wordsOf filled
 words-is es = rw length-map
 
@@ -34,7 +34,7 @@ module _ {es : List Entry} {held : ℕ} {ws : List ℕ} (h : Holds es held ws) (
   word-at j l =
       let long : length (map lineOf es) ≡ length es = length-map es lineOf in
       let low : i < length es = omega (arith, h .number) in
-      rw (h .words) (filled-get 6 2304 0 (map lineOf es) (lines-even es) (omega (arith, h .few)) i j (omega arith) l
+      rw (h .words) (filled-get 6 tableSize 0 (map lineOf es) (lines-even es) (omega (arith, h .few)) i j (omega arith) l
       ∙ ap (λ (b : List ℕ). getD b j 0) (get-map lineOf es i none [] low))
 
   pub key-at : getD ws (6 * i) 0 ≡ getD es i none .key
@@ -101,7 +101,7 @@ flat-drop (suc n) (e ∷ es) =
     rw p (flat-drop n es)
 
 module _ (es : List Entry) (held n : ℕ) (ws : List ℕ) (h : Holds es held ws) (k : n ≤ held) where
-  whole : ws ≡ flat (map lineOf es) ++ replicate (2304 - 6 * held) 0
+  whole : ws ≡ flat (map lineOf es) ++ replicate (tableSize - 6 * held) 0
   whole = h .words ∙ rw (h .number) (words-is es)
 
   all-long : length (flat (map lineOf es)) ≡ 6 * held
@@ -114,12 +114,12 @@ module _ (es : List Entry) (held n : ℕ) (ws : List ℕ) (h : Holds es held ws)
   unfolding movedDown
   moved-is =
       let front : take (6 * (held - n)) (drop (6 * n) ws) ≡ flat (map lineOf (drop n es)) =
-      rw (whole, drop-append-le (6 * n) (flat (map lineOf es)) (replicate (2304 - 6 * held) 0) (omega (arith, all-long)), flat-drop n es)
-      (take-at (flat (map lineOf (drop n es))) (replicate (2304 - 6 * held) 0) (6 * (held - n)) left-long) in
+      rw (whole, drop-append-le (6 * n) (flat (map lineOf es)) (replicate (tableSize - 6 * held) 0) (omega (arith, all-long)), flat-drop n es)
+      (take-at (flat (map lineOf (drop n es))) (replicate (tableSize - 6 * held) 0) (6 * (held - n)) left-long) in
       ap (λ (x : List ℕ). x ++ drop (6 * (held - n)) ws) front
 
-  past-is : drop (6 * held) ws ≡ replicate (2304 - 6 * held) 0
-  past-is = rw whole (drop-at (flat (map lineOf es)) (replicate (2304 - 6 * held) 0) (6 * held) all-long)
+  past-is : drop (6 * held) ws ≡ replicate (tableSize - 6 * held) 0
+  past-is = rw whole (drop-at (flat (map lineOf es)) (replicate (tableSize - 6 * held) 0) (6 * held) all-long)
 
   pub removed-is : cleared (6 * (held - n)) (6 * held) (movedDown (6 * n) (6 * (held - n)) ws) ≡ wordsOf (drop n es)
   unfolding cleared
@@ -127,17 +127,17 @@ module _ (es : List Entry) (held n : ℕ) (ws : List ℕ) (h : Holds es held ws)
       let G : List ℕ = flat (map lineOf (drop n es)) in
       let p : 6 * held ≡ length G + 6 * n = omega (arith, left-long) in
       let q : 6 * (held - n) + 6 * n ≡ 6 * held = omega arith in
-      let rest : drop (6 * held) (G ++ drop (6 * (held - n)) ws) ≡ replicate (2304 - 6 * held) 0 =
+      let rest : drop (6 * held) (G ++ drop (6 * (held - n)) ws) ≡ replicate (tableSize - 6 * held) 0 =
       ap (λ (x : ℕ). drop x (G ++ drop (6 * (held - n)) ws)) p ∙ drop-append-add G (drop (6 * (held - n)) ws) (6 * n) ∙ drop-drop (6 * n) (6 * (held - n)) ws ∙ rw q past-is in
-      let z : 6 * held - 6 * (held - n) + (2304 - 6 * held) ≡ 2304 - 6 * length (drop n es) = simp length-drop (omega (arith, h .number, h .few)) in
+      let z : 6 * held - 6 * (held - n) + (tableSize - 6 * held) ≡ tableSize - 6 * length (drop n es) = simp length-drop (omega (arith, h .number, h .few)) in
       rw (moved-is, rest, take-at G (drop (6 * (held - n)) ws) (6 * (held - n)) left-long, replicate-append-replicate, z) (sym (words-is (drop n es)))
 
 -- what the two loops leave
 pub removed : (es : List Entry) (held n : ℕ) (ws mid end : List ℕ) → Holds es held ws → n ≤ held
-    → (length ws ≡ 2304 → mid ≡ movedDown (6 * n) (6 * (held - n)) ws) → (length mid ≡ 2304 → end ≡ cleared (6 * (held - n)) (6 * held) mid) → end ≡ wordsOf (drop n es)
+    → (length ws ≡ tableSize → mid ≡ movedDown (6 * n) (6 * (held - n)) ws) → (length mid ≡ tableSize → end ≡ cleared (6 * (held - n)) (6 * held) mid) → end ≡ wordsOf (drop n es)
 removed es held n ws mid end h k m e =
-    let long : length ws ≡ 2304 = rw (h .words, words-is) (simp (length-append, length-replicate, flat-long) (omega (arith, h .few))) in
-    let mid-long : length mid ≡ 2304 = rw (m long) (moved-long (6 * n) (6 * (held - n)) ws (omega (arith, long, h .number, h .few)) ∙ long) in
+    let long : length ws ≡ tableSize = rw (h .words, words-is) (simp (length-append, length-replicate, flat-long) (omega (arith, h .few))) in
+    let mid-long : length mid ≡ tableSize = rw (m long) (moved-long (6 * n) (6 * (held - n)) ws (omega (arith, long, h .number, h .few)) ∙ long) in
     e mid-long ∙ rw (m long) (removed-is es held n ws h k)
 
 pub removed-none : (es : List Entry) (held n : ℕ) (ws : List ℕ) → Holds es held ws → n ≡ 0 → ws ≡ wordsOf (drop n es)
@@ -147,8 +147,8 @@ none-held : (n m : ℕ) → n ≡ m → flat (map lineOf []) ++ replicate m 0 �
 unfolding flat
 none-held n m e = rw e
 
-pub none-words : replicate 2304 0 ≡ wordsOf []
-none-words = sym (words-is [] ∙ none-held 2304 (2304 - 6 * 0) (omega arith))
+pub none-words : replicate tableSize 0 ≡ wordsOf []
+none-words = sym (words-is [] ∙ none-held tableSize (tableSize - 6 * 0) (omega arith))
 
 -- ---- a row stored behind what is there
 
@@ -176,11 +176,11 @@ flat-more es e = rw (map-append, flat-append (map lineOf es) (lineOf e ∷ []))
 pub put-more : (es : List Entry) (at : ℕ) (ws : List ℕ) (e : Entry) → Holds es at ws → at < 384 → putRow ws (6 * at) (rowOf e) ≡ wordsOf (es ++ (e ∷ []))
 put-more es at ws e h l =
     let long : length (flat (map lineOf es)) ≡ 6 * at = rw (h .number) (flat-long es) in
-    let z : 2304 - 6 * length es ≡ 6 + (2304 - 6 * (length es + 1)) = omega (arith, h .number) in
-    let zeros : List ℕ = replicate (2304 - 6 * length es) 0 in
-    let rest : drop 6 zeros ≡ replicate (2304 - 6 * (length es + 1)) 0 = rw z (drop-zeros 6 (2304 - 6 * (length es + 1))) in
+    let z : tableSize - 6 * length es ≡ 6 + (tableSize - 6 * (length es + 1)) = omega (arith, h .number) in
+    let zeros : List ℕ = replicate (tableSize - 6 * length es) 0 in
+    let rest : drop 6 zeros ≡ replicate (tableSize - 6 * (length es + 1)) 0 = rw z (drop-zeros 6 (tableSize - 6 * (length es + 1))) in
     rw (h .words, words-is es, put-behind (flat (map lineOf es)) zeros (6 * at) (rowOf e) long (simp length-replicate (omega (arith, z))), rest, words-is (es ++ (e ∷ [])), flat-more es e, length-append)
-    (sym (append-assoc (flat (map lineOf es)) (lineOf e) (replicate (2304 - 6 * (length es + 1)) 0)))
+    (sym (append-assoc (flat (map lineOf es)) (lineOf e) (replicate (tableSize - 6 * (length es + 1)) 0)))
 
 pub copy-more : (es : List Entry) (n : ℕ) (out : List ℕ) (e : Entry) → n ≡ length es → 6 * n + 6 ≤ length out
     → putRow (shownIn es out) (6 * n) (rowOf e) ≡ shownIn (es ++ (e ∷ [])) out

@@ -7,7 +7,7 @@ ghost use Prim.Native.Nat.{_+_, _*_, _%_, _<_, _≤_};
 ghost use lib.Dec.{ltb, leb, eqb};
 ghost use lib.ListN.{length, drop};
 ghost use Rattle.model.specs.Topic.{Entry, countBelow, holdsPair};
-ghost use Rattle.changes.specs.Places.{half, Writer, Written, Holds, wordsOf, entryOf, rowOf, putRow, movedDown, cleared, copiedRow, Ranging, Copying, withHalf, guidOf, nothingKept, keptAt};
+ghost use Rattle.changes.specs.Places.{tableSize, half, Writer, Written, Holds, wordsOf, entryOf, rowOf, putRow, movedDown, cleared, copiedRow, Ranging, Copying, withHalf, guidOf, nothingKept, keptAt};
 
 // A change as it comes in. Its key is given by the cache.
 pub struct CacheChange {
@@ -37,6 +37,9 @@ impl CacheChange {
     pub const PLACES: usize = 384;
 
     pub const WORDS: usize = 6;
+
+    // the lent words
+    pub const TABLE: usize = CacheChange::PLACES * CacheChange::WORDS;
 }
 
 // Eight bytes of the writer as one number, the first the lowest.
@@ -79,7 +82,7 @@ fn one_below(key: u64, before: u64) -> usize
 }
 
 // How many held keys are below a time.
-pub fn count_below(words: &[u64; 2304], held: usize, before: u64) -> usize
+pub fn count_below(words: &[u64; CacheChange::TABLE], held: usize, before: u64) -> usize
     ensures { λ r. ⌜ ((es : List Entry) → Holds es held (now (words .entry)) → r ≡ countBelow before es) ⌝ }
 {
     let mut n = 0;
@@ -107,7 +110,7 @@ fn same(seq: u64, low: u64, high: u64, x: Row) -> bool
 }
 
 // Whether a place from this one on holds the pair of writer and sequence number of the row.
-fn holds_pair(words: &[u64; 2304], from: usize, held: usize, x: Row) -> bool
+fn holds_pair(words: &[u64; CacheChange::TABLE], from: usize, held: usize, x: Row) -> bool
     ensures { λ r. ⌜ ((es : List Entry) (e : Entry) → Holds es held (now (words .entry)) → Written es → Writer (e .writer) → x ≡ rowOf e → r ≡ holdsPair (e .writer) (e .seq) (drop from es)) ⌝ }
 {
     let mut i = from;
@@ -123,7 +126,12 @@ fn holds_pair(words: &[u64; 2304], from: usize, held: usize, x: Row) -> bool
     false
 }
 
-pub fn find_by_sn(words: &[u64; 2304], from: usize, held: usize, cc: CacheChange) -> bool
+pub fn find_by_sn(
+    words: &[u64; CacheChange::TABLE],
+    from: usize,
+    held: usize,
+    cc: CacheChange,
+) -> bool
     ensures { λ r. ⌜ ((es : List Entry) → Holds es held (now (words .entry)) → Written es → r ≡ holdsPair (cc .«writer_guid») (cc .«sequence_number») (drop from es)) ⌝ }
 {
     holds_pair(words, from, held, row_of(0, cc))
@@ -131,9 +139,9 @@ pub fn find_by_sn(words: &[u64; 2304], from: usize, held: usize, cc: CacheChange
 
 // ---- removing and adding
 
-fn move_down(words: &mut [u64; 2304], by: usize, size: usize)
-    requires { ⌜ by + size ≤ 2304 ⌝ }
-    ensures { λ r. ⌜ (length (now (words .entry)) ≡ 2304 → now (words .exit) ≡ movedDown by size (now (words .entry))) ⌝ }
+fn move_down(words: &mut [u64; CacheChange::TABLE], by: usize, size: usize)
+    requires { ⌜ by + size ≤ tableSize ⌝ }
+    ensures { λ r. ⌜ (length (now (words .entry)) ≡ tableSize → now (words .exit) ≡ movedDown by size (now (words .entry))) ⌝ }
 {
     let mut i = 0;
     while i < size {
@@ -142,9 +150,9 @@ fn move_down(words: &mut [u64; 2304], by: usize, size: usize)
     }
 }
 
-fn clear(words: &mut [u64; 2304], from: usize, to: usize)
-    requires { ⌜ (from ≤ to) × (to ≤ 2304) ⌝ }
-    ensures { λ r. ⌜ (length (now (words .entry)) ≡ 2304 → now (words .exit) ≡ cleared from to (now (words .entry))) ⌝ }
+fn clear(words: &mut [u64; CacheChange::TABLE], from: usize, to: usize)
+    requires { ⌜ (from ≤ to) × (to ≤ tableSize) ⌝ }
+    ensures { λ r. ⌜ (length (now (words .entry)) ≡ tableSize → now (words .exit) ≡ cleared from to (now (words .entry))) ⌝ }
 {
     let mut i = from;
     while i < to {
@@ -154,14 +162,14 @@ fn clear(words: &mut [u64; 2304], from: usize, to: usize)
 }
 
 // Empties all places.
-pub fn clear_all(words: &mut [u64; 2304])
+pub fn clear_all(words: &mut [u64; CacheChange::TABLE])
     ensures { λ r. ⌜ now (words .exit) ≡ wordsOf [] ⌝ }
 {
-    *words = [0; 2304];
+    *words = [0; CacheChange::TABLE];
 }
 
 // Drops the oldest n: the rest moves down and leaves zeros behind.
-pub fn drop_oldest(words: &mut [u64; 2304], held: usize, n: usize)
+pub fn drop_oldest(words: &mut [u64; CacheChange::TABLE], held: usize, n: usize)
     ensures { λ r. ⌜ ((es : List Entry) → Holds es held (now (words .entry)) → n ≤ held → now (words .exit) ≡ wordsOf (drop n es)) ⌝ }
 {
     if n == 0 {
@@ -178,7 +186,7 @@ pub fn drop_oldest(words: &mut [u64; 2304], held: usize, n: usize)
     clear(words, left, 6 * held);
 }
 
-fn put_row(words: &mut [u64; 2304], at: usize, x: Row)
+fn put_row(words: &mut [u64; CacheChange::TABLE], at: usize, x: Row)
     requires { ⌜ at < 384 ⌝ }
     ensures { λ r. ⌜ now (words .exit) ≡ putRow (now (words .entry)) (6 * at) x ⌝ }
 {
@@ -192,7 +200,7 @@ fn put_row(words: &mut [u64; 2304], at: usize, x: Row)
 }
 
 // A change put behind the last.
-pub fn insert(words: &mut [u64; 2304], at: usize, key: u64, cc: CacheChange)
+pub fn insert(words: &mut [u64; CacheChange::TABLE], at: usize, key: u64, cc: CacheChange)
     ensures { λ r. ⌜ ((es : List Entry) → Holds es at (now (words .entry)) → at < 384 → now (words .exit) ≡ wordsOf (es ++ (entryOf cc key ∷ []))) ⌝ }
 {
     if at < CacheChange::PLACES {
@@ -221,7 +229,7 @@ fn one_in_range(key: u64, start: u64, end: u64) -> usize
 }
 
 // How many held keys are above start and up to end.
-pub fn count_in_range(words: &[u64; 2304], held: usize, start: u64, end: u64) -> usize
+pub fn count_in_range(words: &[u64; CacheChange::TABLE], held: usize, start: u64, end: u64) -> usize
     ensures { λ r. ⌜ Ranging (now (words .entry)) held start end r ⌝ }
 {
     let mut n = 0;
@@ -237,7 +245,7 @@ pub fn count_in_range(words: &[u64; 2304], held: usize, start: u64, end: u64) ->
 }
 
 // The six words of place i to place n of the results, if there is room.
-fn copy_row(words: &[u64; 2304], i: usize, out: &mut [u64], n: usize)
+fn copy_row(words: &[u64; CacheChange::TABLE], i: usize, out: &mut [u64], n: usize)
     requires { ⌜ (i < 384) × (n ≤ 384) ⌝ }
     ensures { λ r. ⌜ now (out .exit) ≡ copiedRow (now (words .entry)) (6 * i) (now (out .entry)) (6 * n) ⌝ }
 {
@@ -254,7 +262,13 @@ fn copy_row(words: &[u64; 2304], i: usize, out: &mut [u64], n: usize)
 }
 
 // The held changes with keys above start and up to end, in key order, to the results.
-pub fn copy_in_range(words: &[u64; 2304], held: usize, start: u64, end: u64, out: &mut [u64])
+pub fn copy_in_range(
+    words: &[u64; CacheChange::TABLE],
+    held: usize,
+    start: u64,
+    end: u64,
+    out: &mut [u64],
+)
     ensures { λ r. ⌜ Copying (now (words .entry)) held start end (now (out .entry)) (now (out .exit)) ⌝ }
 {
     let mut n = 0;

@@ -1,12 +1,9 @@
 -- An add worked out on numbers, and what is left to do to the table.
 use mathlib.Core.Path.{_≡_}
-use mathlib.Core.Bool.{Bool, false, _&&_, cond}
+use mathlib.Core.Bool.{false, cond}
 use mathlib.Core.List.{List}
-use Prim.Native.Nat.{ℕ, _^_}
-use lib.Dec.{leb, ltb, eqb}
+use Prim.Native.Nat.{ℕ}
 use Rattle.sampleinfo.specs.Counts.{zero}
-use Rattle.sampleinfo.specs.declared.Body.{Body}
-use Rattle.sampleinfo.specs.declared.Body.the-variants.{Value, Dispose}
 use Rattle.sampleinfo.specs.declared.NotAliveGenerationCounts.{NotAliveGenerationCounts}
 use Rattle.model.specs.Model.{Arrival, wellFormed}
 use Rattle.store.specs.Store.{Store, Said, refused, added, Step, adding, declined}
@@ -18,18 +15,10 @@ use Rattle.datasample_cache.specs.declared.Decision.{Decision}
 abbrev pub arrival : ℕ → List ℕ → ℕ → ℕ → ℕ → ℕ → Arrival
 arrival n w q t k h = record { name = n; writer = w; seq = q; time = t; kind = k; handle = h }
 
--- "sequence number 1 to 2^63-1"
-abbrev pub seqFits : ℕ → Bool
-seqFits q = leb 1 q && ltb q (2 ^ 63)
-
 -- 1 comes first
 unfoldable pub deciding : Store → Arrival → Step
 unfolding wellFormed adding
 deciding s a = cond (wellFormed a) (adding s (wantedOf a)) (declined 1 s)
-
--- as the model's bodyIn: what is not a dispose is a value
-abbrev pub bodyFor : ℕ → ℕ → Body
-bodyFor kind handle = cond (eqb kind 2) (Dispose handle) (Value handle)
 
 -- what a decision says beside its header
 pub record Drawn : Type 0 where

@@ -7,6 +7,7 @@ ghost use mathlib.Core.List.{List};
 ghost use Prim.Native.Nat.{ℕ, _*_, _<_};
 ghost use lib.ListN.{length};
 ghost use Rattle.sampleinfo.specs.Samples.{unread};
+ghost use Rattle.sampleinfo.specs.Formed.{bodyFor};
 ghost use Rattle.model.specs.Model.{Model, Call, step, countsKept, countsNone};
 ghost use Rattle.refine.specs.Good.{Good};
 ghost use Rattle.memory.specs.Lies.{Lies};
@@ -18,7 +19,7 @@ ghost use Rattle.store.specs.Fit.{depthOf};
 ghost use Rattle.index.specs.Memory.{freshStore};
 ghost use Rattle.datasample_cache.specs.Others.{nextAs, setUpOf, depthFor, keptIn, withinBy, notSetUp, Begun, SetsUp, Dies};
 ghost use Rattle.datasample_cache.specs.Came.{Came, evictedOf, finishedBy, Unfit, notAdded};
-ghost use Rattle.datasample_cache.specs.Adding.{Decided, Decides, arrival, seqFits, bodyFor, drawnOf, drawnNone};
+ghost use Rattle.datasample_cache.specs.Adding.{Decided, Decides, arrival, drawnOf, drawnNone};
 
 pub enum Evicted {
     Handle(u32),
@@ -72,16 +73,6 @@ fn body_of(kind: u8, handle: u32) -> sampleinfo::Body
     sampleinfo::Body::Value(handle)
 }
 
-// Refusal 1: a sequence number out of range.
-fn in_range(sequence_number: u64) -> bool
-    ensures { λ r. ⌜ r ≡ seqFits «sequence_number» ⌝ }
-{
-    if sequence_number == 0 {
-        return false;
-    }
-    sequence_number < 0x8000_0000_0000_0000
-}
-
 // What the index makes of an add that is well formed.
 fn planned(
     h: index::Cache,
@@ -125,10 +116,7 @@ fn decide(
 ) -> Decision
     ensures { λ r. ⌜ Decides h (now (ws .entry)) instance «sequence_number» time kind handle r (now (ws .exit)) ⌝ }
 {
-    if !in_range(sequence_number) {
-        return declined(h, 1);
-    }
-    match sampleinfo::Body::of(kind, handle) {
+    match sampleinfo::Body::arrived(kind, handle, sequence_number) {
         sampleinfo::BodyMade::Refused => declined(h, 1),
         sampleinfo::BodyMade::Body(body) => planned(h, ws, instance, time, body.instance_state()),
     }

@@ -8,6 +8,7 @@ use native.Mathlib.Omega.{arith}
 use borrow.Author.Tests.{le-leb, lt-leb, eq-eqb, ne-eqb}
 use lib.Dec.{T, ltb, leb, eqb, leb→le}
 use lib.ListN.{length}
+use Rattle.sampleinfo.specs.Formed as formed
 use Rattle.model.specs.Topic.{Entry, Limits, places, inBounds, limitsFit, raised, deeper, wider, seqFits, mayFor, removal, countBelow, collectEvery}
 use Rattle.dds_cache.specs.declared.History.{History}
 use Rattle.dds_cache.specs.declared.History.the-variants.{KeepAll, KeepLast}
@@ -122,13 +123,10 @@ module _ (l : Limits) (es : List Entry) (sn size m r : ℕ) (e : m ≡ collectEv
 
 -- ---- numbers
 
-pub seq-none : (sn : ℕ) → sn ≡ 0 → false ≡ seqFits sn
+-- the topic cache's range of sequence numbers is the cache's
+pub seq-is : (b : Bool) (sn : ℕ) → b ≡ formed.seqFits sn → b ≡ seqFits sn
 unfolding seqFits
-seq-none sn e = rw (lt-leb 1 sn (omega arith))
-
-pub seq-some : (sn : ℕ) → (sn ≡ 0 → ⊥) → ltb sn 9223372036854775808 ≡ seqFits sn
-unfolding seqFits
-seq-some sn e = rw (le-leb 1 sn (omega arith))
+seq-is b sn e = e
 
 -- ---- the step by the payload's length, by the tests that the code makes
 

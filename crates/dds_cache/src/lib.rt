@@ -4,7 +4,7 @@ ghost use mathlib.Core.Path.{_≡_};
 ghost use mathlib.Core.List.{List, [], _∷_, _++_};
 ghost use Prim.Native.Nat.{_-_, _≤_, _<_, max, min};
 ghost use lib.ListN.{length, drop};
-ghost use Rattle.model.specs.Topic.{Entry, inBounds, seqFits, deeper, wider, defaults, mayFor, removal, collectEvery};
+ghost use Rattle.model.specs.Topic.{Entry, inBounds, deeper, wider, defaults, mayFor, removal, collectEvery};
 ghost use Rattle.changes.specs.Places.{Holds, wordsOf, entryOf};
 ghost use Rattle.dds_cache.specs.Header.{depthOf, limitsOf, given, Limiting, Creating, Updates, Adds, Removes, Ranges, dropsFor, without, behind, inserted, Inner};
 use changes::CacheChange;
@@ -207,15 +207,6 @@ fn modulus(payload_size: u32) -> u64
     }
 }
 
-fn sequence_fits(sn: u64) -> bool
-    ensures { λ r. ⌜ r ≡ seqFits sn ⌝ }
-{
-    if sn == 0 {
-        return false;
-    }
-    sn < 9_223_372_036_854_775_808
-}
-
 // One place further; there are no more than 384.
 fn behind_last(at: usize) -> usize
     ensures { λ r. ⌜ r ≡ behind at ⌝ }
@@ -237,7 +228,7 @@ fn may_remove(history: History, must: usize, held: usize) -> usize
 
 impl TopicCache {
     // Limits outside their bounds leave the words as they are.
-    pub fn new(history: History, max_samples: u32, words: &mut [u64; 2304]) -> Created
+    pub fn new(history: History, max_samples: u32, words: &mut [u64; CacheChange::TABLE]) -> Created
         ensures { λ r. ⌜ Creating (given history «max_samples») r (now (words .entry)) (now (words .exit)) ⌝ }
     {
         match KeepLimits::new(history, max_samples) {
@@ -277,7 +268,7 @@ impl TopicCache {
     }
 
     // How many changes a removal before this time drops.
-    fn remove_count(self, words: &[u64; 2304], remove_before: u64) -> usize
+    fn remove_count(self, words: &[u64; CacheChange::TABLE], remove_before: u64) -> usize
         ensures { λ r. ⌜ (r ≤ self .held) × ((es : List Entry) → Holds es (self .held) (now (words .entry)) → r ≡ removal (limitsOf (self .limits)) «remove_before» es) ⌝ }
     {
         let limits = self.limits;
@@ -291,7 +282,7 @@ impl TopicCache {
     }
 
     // The cache without its oldest n.
-    fn without(self, words: &mut [u64; 2304], n: usize) -> TopicCache
+    fn without(self, words: &mut [u64; CacheChange::TABLE], n: usize) -> TopicCache
         requires { ⌜ n ≤ self .held ⌝ }
         ensures { λ r. ⌜ (r ≡ without self n) × ((es : List Entry) → Holds es (self .held) (now (words .entry)) → now (words .exit) ≡ wordsOf (drop n es)) ⌝ }
     {
@@ -307,7 +298,11 @@ impl TopicCache {
     }
 
     // Remove changes before the given time, but keep at least `min_keep_samples`, and at most `max_keep_samples`.
-    pub fn remove_changes_before(self, words: &mut [u64; 2304], remove_before: u64) -> TopicCache
+    pub fn remove_changes_before(
+        self,
+        words: &mut [u64; CacheChange::TABLE],
+        remove_before: u64,
+    ) -> TopicCache
         ensures { λ r. ⌜ Removes «remove_before» self (now (words .entry)) r (now (words .exit)) ⌝ }
     {
         let n = self.remove_count(words, remove_before);
@@ -315,7 +310,7 @@ impl TopicCache {
     }
 
     // How many changes the collection before an add drops: none if there is no collection.
-    fn collect_count(self, words: &[u64; 2304], sn: u64, payload_size: u32) -> usize
+    fn collect_count(self, words: &[u64; CacheChange::TABLE], sn: u64, payload_size: u32) -> usize
         ensures { λ r. ⌜ (r ≤ self .held) × ((es : List Entry) → Holds es (self .held) (now (words .entry)) → r ≡ dropsFor (limitsOf (self .limits)) es sn «payload_size») ⌝ }
     {
         let modulus = modulus(payload_size);
@@ -328,7 +323,13 @@ impl TopicCache {
         0
     }
 
-    fn insert(self, words: &mut [u64; 2304], n: usize, key: u64, cc: CacheChange) -> Outcome
+    fn insert(
+        self,
+        words: &mut [u64; CacheChange::TABLE],
+        n: usize,
+        key: u64,
+        cc: CacheChange,
+    ) -> Outcome
         requires { ⌜ n ≤ self .held ⌝ }
         ensures { λ r. ⌜ (r .answer ≡ Added.Key key) × (r .cache ≡ inserted self n key) × ((es : List Entry) → Holds es (self .held) (now (words .entry)) → length (drop n es) < 384 → now (words .exit) ≡ wordsOf (drop n es ++ (entryOf cc key ∷ []))) ⌝ }
     {
@@ -346,7 +347,12 @@ impl TopicCache {
         }
     }
 
-    fn add_change_internal(self, words: &mut [u64; 2304], instant: u64, cc: CacheChange) -> Outcome
+    fn add_change_internal(
+        self,
+        words: &mut [u64; CacheChange::TABLE],
+        instant: u64,
+        cc: CacheChange,
+    ) -> Outcome
         ensures { λ r. ⌜ Inner instant cc self (now (words .entry)) r (now (words .exit)) ⌝ }
     {
         // First, do garbage collection: here only how many it drops, so that a refusal can leave all as it was.
@@ -370,13 +376,13 @@ impl TopicCache {
 
     pub fn add_change(
         self,
-        words: &mut [u64; 2304],
+        words: &mut [u64; CacheChange::TABLE],
         instant: u64,
         cache_change: CacheChange,
     ) -> Outcome
         ensures { λ r. ⌜ Adds instant «cache_change» self (now (words .entry)) r (now (words .exit)) ⌝ }
     {
-        if sequence_fits(cache_change.sequence_number) {
+        if sampleinfo::sequence_number_fits(cache_change.sequence_number) {
             return self.add_change_internal(words, instant, cache_change);
         }
         Outcome {
@@ -388,7 +394,7 @@ impl TopicCache {
     // The changes with keys above start and up to end, six words each.
     pub fn get_changes_in_range_best_effort(
         self,
-        words: &[u64; 2304],
+        words: &[u64; CacheChange::TABLE],
         start_instant: u64,
         end_instant: u64,
         out: &mut [u64],

@@ -47,7 +47,7 @@ fn print_added(answer: Added) {
 
 // ---- calls
 
-fn create(history: History, max_samples: u32, words: &mut [u64; 2304]) {
+fn create(history: History, max_samples: u32, words: &mut [u64; CacheChange::TABLE]) {
     match TopicCache::new(history, max_samples, words) {
         Created::OutOfBounds => print(b"refused 2\n"),
         Created::Cache(cache) => print_limits(cache),
@@ -66,7 +66,7 @@ fn update(cache: TopicCache, history: History, max_samples: u32) -> TopicCache {
     then
 }
 
-fn remove(cache: TopicCache, words: &mut [u64; 2304], before: u64) -> TopicCache {
+fn remove(cache: TopicCache, words: &mut [u64; CacheChange::TABLE], before: u64) -> TopicCache {
     let then = cache.remove_changes_before(words, before);
     print(b"ok");
     print_held(then);
@@ -80,7 +80,7 @@ fn writer(first: u8, last: u8) -> [u8; 16] {
 
 fn add_from(
     cache: TopicCache,
-    words: &mut [u64; 2304],
+    words: &mut [u64; CacheChange::TABLE],
     instant: u64,
     guid: [u8; 16],
     sn: u64,
@@ -101,7 +101,13 @@ fn add_from(
     then
 }
 
-fn add(cache: TopicCache, words: &mut [u64; 2304], instant: u64, sn: u64, size: u32) -> TopicCache {
+fn add(
+    cache: TopicCache,
+    words: &mut [u64; CacheChange::TABLE],
+    instant: u64,
+    sn: u64,
+    size: u32,
+) -> TopicCache {
     add_from(cache, words, instant, writer(1, 16), sn, 0, size)
 }
 
@@ -144,7 +150,13 @@ fn print_kept(out: &[u64], i: usize) {
     print(b"\n");
 }
 
-fn look_into(cache: TopicCache, words: &[u64; 2304], start: u64, end: u64, out: &mut [u64]) {
+fn look_into(
+    cache: TopicCache,
+    words: &[u64; CacheChange::TABLE],
+    start: u64,
+    end: u64,
+    out: &mut [u64],
+) {
     match cache.get_changes_in_range_best_effort(words, start, end, out) {
         Found::TooShort => {
             print(b"refused 9");
@@ -159,14 +171,14 @@ fn look_into(cache: TopicCache, words: &[u64; 2304], start: u64, end: u64, out: 
     }
 }
 
-fn look(cache: TopicCache, words: &[u64; 2304], start: u64, end: u64) {
+fn look(cache: TopicCache, words: &[u64; CacheChange::TABLE], start: u64, end: u64) {
     let mut out = [7u64; 60];
     look_into(cache, words, start, end, &mut out);
 }
 
 // ---- the list of calls
 
-fn limits(words: &mut [u64; 2304]) {
+fn limits(words: &mut [u64; CacheChange::TABLE]) {
     print(b"limits\n");
     create(History::KeepLast(0), 64, words);
     create(History::KeepLast(257), 64, words);
@@ -179,7 +191,7 @@ fn limits(words: &mut [u64; 2304]) {
     create(history, default.max_keep_samples, words);
 }
 
-fn keys_and_range(fresh: TopicCache, words: &mut [u64; 2304]) {
+fn keys_and_range(fresh: TopicCache, words: &mut [u64; CacheChange::TABLE]) {
     print(b"keys\n");
     let a = add(fresh, words, 0, 1, 0);
     let b = add(a, words, 1, 2, 0);
@@ -203,7 +215,12 @@ fn keys_and_range(fresh: TopicCache, words: &mut [u64; 2304]) {
 }
 
 // Not printed.
-fn quiet(cache: TopicCache, words: &mut [u64; 2304], instant: u64, sn: u64) -> TopicCache {
+fn quiet(
+    cache: TopicCache,
+    words: &mut [u64; CacheChange::TABLE],
+    instant: u64,
+    sn: u64,
+) -> TopicCache {
     let outcome = cache.add_change(
         words,
         instant,
@@ -218,7 +235,13 @@ fn quiet(cache: TopicCache, words: &mut [u64; 2304], instant: u64, sn: u64) -> T
 }
 
 // Changes at the times step * first to step * last, under odd sequence numbers: no collection but for a full table.
-fn fill(start: TopicCache, words: &mut [u64; 2304], step: u64, first: u64, last: u64) -> TopicCache
+fn fill(
+    start: TopicCache,
+    words: &mut [u64; CacheChange::TABLE],
+    step: u64,
+    first: u64,
+    last: u64,
+) -> TopicCache
     requires { ⌜ (step ≤ 10) × (1 ≤ first) × (last ≤ 1000) ⌝ }
 {
     let mut cache = start;
@@ -230,7 +253,11 @@ fn fill(start: TopicCache, words: &mut [u64; 2304], step: u64, first: u64, last:
     cache
 }
 
-fn started(history: History, max_samples: u32, words: &mut [u64; 2304]) -> TopicCache {
+fn started(
+    history: History,
+    max_samples: u32,
+    words: &mut [u64; CacheChange::TABLE],
+) -> TopicCache {
     match TopicCache::new(history, max_samples, words) {
         Created::Cache(cache) => cache,
         Created::OutOfBounds => TopicCache {
@@ -241,7 +268,7 @@ fn started(history: History, max_samples: u32, words: &mut [u64; 2304]) -> Topic
     }
 }
 
-fn removal(words: &mut [u64; 2304]) {
+fn removal(words: &mut [u64; CacheChange::TABLE]) {
     print(b"removal\n");
     let a = started(History::KeepLast(3), 5, words);
     let b = fill(a, words, 10, 1, 7);
@@ -259,7 +286,7 @@ fn removal(words: &mut [u64; 2304]) {
     remove(k, words, 1000);
 }
 
-fn collection(words: &mut [u64; 2304]) -> TopicCache {
+fn collection(words: &mut [u64; CacheChange::TABLE]) -> TopicCache {
     print(b"collection\n");
     let a = started(History::KeepLast(1), 2, words);
     let b = fill(a, words, 1, 1, 2);
@@ -276,7 +303,7 @@ fn collection(words: &mut [u64; 2304]) -> TopicCache {
     add(l, words, 13, 27, 65537)
 }
 
-fn last_key(cache: TopicCache, words: &mut [u64; 2304]) -> TopicCache {
+fn last_key(cache: TopicCache, words: &mut [u64; CacheChange::TABLE]) -> TopicCache {
     print(b"last key\n");
     let a = add(cache, words, u64::MAX, 101, 0);
     let b = add(a, words, 14, 102, 65537);
@@ -295,7 +322,7 @@ fn updates(cache: TopicCache) {
     update(e, History::KeepAll, 0);
 }
 
-fn full(words: &mut [u64; 2304]) {
+fn full(words: &mut [u64; CacheChange::TABLE]) {
     print(b"full\n");
     let a = started(History::KeepAll, 256, words);
     let b = fill(a, words, 1, 1, 383);
@@ -308,7 +335,7 @@ fn full(words: &mut [u64; 2304]) {
     remove(g, words, u64::MAX);
 }
 
-fn all(words: &mut [u64; 2304]) {
+fn all(words: &mut [u64; CacheChange::TABLE]) {
     limits(words);
     let fresh = started(History::KeepLast(1), 64, words);
     keys_and_range(fresh, words);
@@ -320,6 +347,6 @@ fn all(words: &mut [u64; 2304]) {
 }
 
 fn main() {
-    let mut words = [0u64; 2304];
+    let mut words = [0u64; CacheChange::TABLE];
     all(&mut words);
 }

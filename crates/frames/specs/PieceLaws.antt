@@ -8,6 +8,7 @@ use borrow.Author.Tests.{not-false, eq-eqb, ne-eqb, eqb-true}
 use lib.Dec.{eqb}
 use lib.ListN.{length, take}
 use lib.Seq.{length-take-le}
+use Rattle.records.specs.Format.{tooLong}
 use Rattle.frames.specs.declared.Got.{Got}
 use Rattle.frames.specs.declared.Piece.{Piece}
 use Rattle.frames.specs.Pieces.{pieceOf, versionOf, Most}
@@ -76,7 +77,7 @@ module _ (came : Piece) (version : ℕ) where
 pub front-long : (l : List ℕ) (n k : ℕ) → Most n (length l) k → k ≡ length (take k l)
 front-long l n k h = sym (length-take-le k l (h .there))
 
-pub front-read : (l now : List ℕ) (n k : ℕ) → Most n (length l) k → n < 65536 → length now ≡ length l → (k ≤ length now) × (k < 65536)
+pub front-read : (l now : List ℕ) (n k : ℕ) → Most n (length l) k → n < tooLong → length now ≡ length l → (k ≤ length now) × (k < tooLong)
 front-read l now n k h s e = (omega (arith, h .there, e), omega (arith, h .asked))
 
 -- all that was asked for was read: the part is as long as the head says

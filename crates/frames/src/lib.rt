@@ -4,7 +4,7 @@ ghost use mathlib.Core.Path.{_≡_};
 ghost use mathlib.Core.Bool.{true};
 ghost use Prim.Native.Nat.{_+_, _≤_, _<_};
 ghost use lib.ListN.{length};
-ghost use Rattle.records.specs.Format.{byteAt, numberAt};
+ghost use Rattle.records.specs.Format.{byteAt, numberAt, tooLong};
 ghost use Rattle.frames.specs.Pieces.{pieceOf, versionOf, Most};
 
 // ---- the input
@@ -123,7 +123,7 @@ fn at_most(n: usize, most: usize) -> usize
 }
 
 fn size_of(x: u16) -> usize
-    ensures { λ r. ⌜ (r ≡ x) × (r < 65536) ⌝ }
+    ensures { λ r. ⌜ (r ≡ x) × (r < tooLong) ⌝ }
 {
     x as usize
 }
@@ -136,7 +136,7 @@ pub struct Record {
 
 // The next record goes to the front of the lent bytes, its two length bytes beside it. The input may end before it.
 pub fn next_record(two: &mut [u8], rec: &mut [u8]) -> Record
-    ensures { λ r. ⌜ (r .size ≤ length (now (rec .exit))) × (r .size < 65536) ⌝ }
+    ensures { λ r. ⌜ (r .size ≤ length (now (rec .exit))) × (r .size < tooLong) ⌝ }
     ensures { λ r. ⌜ (r .piece .go ≡ true → r .size ≡ numberAt 2 (now (two .exit)) 0) ⌝ }
 {
     let got = fill(two);

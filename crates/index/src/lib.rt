@@ -34,6 +34,9 @@ pub struct Cache {
 }
 
 impl Cache {
+    // How many words are lent.
+    pub const WORDS: usize = 928;
+
     // Where each region of the lent words begins.
     pub const NAMES: usize = 0;
 

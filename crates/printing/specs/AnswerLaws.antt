@@ -12,7 +12,7 @@ use Rattle.sampleinfo.specs.declared.Info.{Info}
 use Rattle.model.specs.Pairs.{Pair}
 use Rattle.model.specs.Model.{refused, ok, added, next}
 use Rattle.printing.specs.Printout.{lineOf, refusedWord, orDash, numberLine, pairLine, pairLines, infoLine, infoLines, printed}
-use Rattle.printing.specs.Lines.{lined, lineEnd, Lined, Laid}
+use Rattle.printing.specs.Lines.{lineRoom, lined, lineEnd, Lined, Laid}
 use Rattle.printing.specs.LineLaws.{laid-long, laid-then}
 
 -- ---- how long
@@ -53,11 +53,11 @@ info-lines-length [] = zero-le
 info-lines-length (i ∷ is) = rw (length-append (infoLine i) (infoLines is)) (omega (arith, info-line-length i, info-lines-length is))
 
 -- the answers of one line
-pub refused-length : (n : ℕ) → length (printed (refused n)) ≤ 256
+pub refused-length : (n : ℕ) → length (printed (refused n)) ≤ lineRoom
 unfolding printed
 refused-length n = omega (arith, number-line-length refusedWord n)
 
-pub ok-length : length (printed ok) ≤ 256
+pub ok-length : length (printed ok) ≤ lineRoom
 unfolding printed lineOf
 ok-length = omega arith
 
@@ -65,21 +65,21 @@ dash-length : (o : Option ℕ) → length (orDash o) ≤ 20
 dash-length none = omega arith
 dash-length (some n) = decimal-length n
 
-pub added-length : (key slot : ℕ) (out : Option ℕ) → length (printed (added key slot out)) ≤ 256
+pub added-length : (key slot : ℕ) (out : Option ℕ) → length (printed (added key slot out)) ≤ lineRoom
 unfolding printed lineOf
 added-length key slot out = simp length-append (omega (arith, decimal-length key, decimal-length slot, dash-length out))
 
-pub next-length : (n : Option ℕ) → length (printed (next n)) ≤ 256
+pub next-length : (n : Option ℕ) → length (printed (next n)) ≤ lineRoom
 unfolding printed lineOf
 next-length n = simp length-append (omega (arith, dash-length n))
 
 -- ---- a line that had room
 
-pub line-laid : (l : List ℕ) (at : ℕ) (s out : List ℕ) (r : ℕ) → Lined l at s out r → at + 256 ≤ length l → length s ≤ 256 → Laid l at s out r
+pub line-laid : (l : List ℕ) (at : ℕ) (s out : List ℕ) (r : ℕ) → Lined l at s out r → at + lineRoom ≤ length l → length s ≤ lineRoom → Laid l at s out r
 unfolding lined lineEnd
 line-laid l at s out r a h k =
-    let b : out ≡ take at l ++ s ++ drop (at + length s) l = a .bytes ∙ rw (le-leb (at + 256) (length l) h) in
-    record { fits = omega arith; bytes = b; place = a .place ∙ rw (le-leb (at + 256) (length l) h); long = ap length b ∙ laid-long l at s (omega arith) }
+    let b : out ≡ take at l ++ s ++ drop (at + length s) l = a .bytes ∙ rw (le-leb (at + lineRoom) (length l) h) in
+    record { fits = omega arith; bytes = b; place = a .place ∙ rw (le-leb (at + lineRoom) (length l) h); long = ap length b ∙ laid-long l at s (omega arith) }
 
 -- ---- one more line
 
@@ -95,12 +95,12 @@ info-lines-more (j ∷ is) i = ap (λ (x : List ℕ). infoLine j ++ x) (info-lin
 
 -- a head line and the lines so far, and then one more
 module _ (l : List ℕ) (at : ℕ) (head mid out : List ℕ) (r q : ℕ) where
-  pub pairs-turn : (ps : List Pair) (p : Pair) → Laid l at (head ++ pairLines ps) mid r → Lined mid r (pairLine p) out q → r + 256 ≤ length l → Laid l at (head ++ pairLines (ps ++ p ∷ [])) out q
+  pub pairs-turn : (ps : List Pair) (p : Pair) → Laid l at (head ++ pairLines ps) mid r → Lined mid r (pairLine p) out q → r + lineRoom ≤ length l → Laid l at (head ++ pairLines (ps ++ p ∷ [])) out q
   pairs-turn ps p a b h =
       rw (pair-lines-more ps p, ← append-assoc head (pairLines ps) (pairLine p))
       (laid-then l at (head ++ pairLines ps) mid r (pairLine p) out q a (line-laid mid r (pairLine p) out q b (omega (arith, a .long)) (omega (arith, pair-line-length p))))
 
-  pub infos-turn : (is : List Info) (i : Info) → Laid l at (head ++ infoLines is) mid r → Lined mid r (infoLine i) out q → r + 256 ≤ length l → Laid l at (head ++ infoLines (is ++ i ∷ [])) out q
+  pub infos-turn : (is : List Info) (i : Info) → Laid l at (head ++ infoLines is) mid r → Lined mid r (infoLine i) out q → r + lineRoom ≤ length l → Laid l at (head ++ infoLines (is ++ i ∷ [])) out q
   infos-turn is i a b h =
       rw (info-lines-more is i, ← append-assoc head (infoLines is) (infoLine i))
       (laid-then l at (head ++ infoLines is) mid r (infoLine i) out q a (line-laid mid r (infoLine i) out q b (omega (arith, a .long)) (omega (arith, info-line-length i))))

@@ -21,7 +21,7 @@ use Rattle.model.specs.Model.{refused, ok, added, next}
 use Rattle.printing.specs.declared.Maybe.{Maybe}
 use Rattle.printing.specs.declared.Maybe.the-variants as maybe
 use Rattle.printing.specs.Printout.{spaced, lineOf, numberLine, okWord, refusedWord, nextWord, keyWord, slotWord, evictedWord, orDash, pairLine, bodyWords, stateWords, countWords, rankWords, infoLine, printed}
-use Rattle.printing.specs.Lines.{numberIn, lined, lineEnd, Lined, Laid, Within}
+use Rattle.printing.specs.Lines.{lineRoom, numberIn, lined, lineEnd, Lined, Laid, Within}
 
 -- ---- bytes one behind the other
 
@@ -112,34 +112,34 @@ module _ {l mid out : List ℕ} {at r q : ℕ} where
 -- ---- lines, where x bytes are left
 
 module _ (l : List ℕ) (at x : ℕ) (e : x ≡ length l - at) where
-  pub line-kept : (s : List ℕ) → x < 256 → Lined l at s l at
+  pub line-kept : (s : List ℕ) → x < lineRoom → Lined l at s l at
   unfolding lined lineEnd
-  line-kept s h = record { bytes = rw (lt-leb (at + 256) (length l) (omega arith)); place = rw (lt-leb (at + 256) (length l) (omega arith)) }
+  line-kept s h = record { bytes = rw (lt-leb (at + lineRoom) (length l) (omega arith)); place = rw (lt-leb (at + lineRoom) (length l) (omega arith)) }
 
-  line-done : (s out : List ℕ) (r : ℕ) → 256 ≤ x → Laid l at s out r → Lined l at s out r
+  line-done : (s out : List ℕ) (r : ℕ) → lineRoom ≤ x → Laid l at s out r → Lined l at s out r
   unfolding lined lineEnd
-  line-done s out r h a = record { bytes = rw (le-leb (at + 256) (length l) (omega arith)) (a .bytes); place = rw (le-leb (at + 256) (length l) (omega arith)) (a .place) }
+  line-done s out r h a = record { bytes = rw (le-leb (at + lineRoom) (length l) (omega arith)) (a .bytes); place = rw (le-leb (at + lineRoom) (length l) (omega arith)) (a .place) }
 
-  pub ok-done : (out : List ℕ) (r : ℕ) → 256 ≤ x → Laid l at (okWord ++ 10 ∷ []) out r → Lined l at (printed ok) out r
+  pub ok-done : (out : List ℕ) (r : ℕ) → lineRoom ≤ x → Laid l at (okWord ++ 10 ∷ []) out r → Lined l at (printed ok) out r
   unfolding printed lineOf
   ok-done out r t a = line-done (lineOf (okWord ∷ [])) out r t a
 
-  pub number-done : (w m out : List ℕ) (n r q : ℕ) → 256 ≤ x → Laid l at (w ++ 32 ∷ []) m r → Laid m r (decimalOf n ++ 10 ∷ []) out q
+  pub number-done : (w m out : List ℕ) (n r q : ℕ) → lineRoom ≤ x → Laid l at (w ++ 32 ∷ []) m r → Laid m r (decimalOf n ++ 10 ∷ []) out q
       → Lined l at (numberLine w n) out q
   unfolding spaced lineOf
   number-done w m out n r q t a c = line-done (numberLine w n) out q t (line-then (w ∷ []) (decimalOf n) [] a c)
 
-  pub next-done : (o : Option ℕ) (m out : List ℕ) (r q : ℕ) → 256 ≤ x → Laid l at (nextWord ++ 32 ∷ []) m r → Laid m r (orDash o ++ 10 ∷ []) out q
+  pub next-done : (o : Option ℕ) (m out : List ℕ) (r q : ℕ) → lineRoom ≤ x → Laid l at (nextWord ++ 32 ∷ []) m r → Laid m r (orDash o ++ 10 ∷ []) out q
       → Lined l at (printed (next o)) out q
   unfolding printed spaced lineOf
   next-done o m out r q t a c = line-done (printed (next o)) out q t (line-then (nextWord ∷ []) (orDash o) [] a c)
 
-  pub pair-done : (m out : List ℕ) (k n r q : ℕ) → 256 ≤ x → Laid l at (decimalOf k ++ 32 ∷ []) m r → Laid m r (decimalOf n ++ 10 ∷ []) out q
+  pub pair-done : (m out : List ℕ) (k n r q : ℕ) → lineRoom ≤ x → Laid l at (decimalOf k ++ 32 ∷ []) m r → Laid m r (decimalOf n ++ 10 ∷ []) out q
       → Lined l at (pairLine (record { key = k; name = n })) out q
   unfolding spaced lineOf
   pair-done m out k n r q t a c = line-done (pairLine (record { key = k; name = n })) out q t (line-then (decimalOf k ∷ []) (decimalOf n) [] a c)
 
-  pub key-done : (o : Option ℕ) (l1 l2 out : List ℕ) (k s a1 a2 q : ℕ) → 256 ≤ x
+  pub key-done : (o : Option ℕ) (l1 l2 out : List ℕ) (k s a1 a2 q : ℕ) → lineRoom ≤ x
       → Laid l at (spaced (keyWord ∷ decimalOf k ∷ slotWord ∷ decimalOf s ∷ [])) l1 a1 → Laid l1 a1 (evictedWord ++ 32 ∷ []) l2 a2 → Laid l2 a2 (orDash o ++ 10 ∷ []) out q
       → Lined l at (printed (added k s o)) out q
   unfolding printed spaced lineOf
@@ -148,7 +148,7 @@ module _ (l : List ℕ) (at x : ℕ) (e : x ≡ length l - at) where
       (line-then (keyWord ∷ decimalOf k ∷ slotWord ∷ decimalOf s ∷ evictedWord ∷ []) (orDash o) []
       (spaced-then (keyWord ∷ decimalOf k ∷ slotWord ∷ decimalOf s ∷ []) (evictedWord ∷ []) p1 p2) p3)
 
-  pub info-done : (i : Info) (l1 l2 l3 out : List ℕ) (a1 a2 a3 q : ℕ) → 256 ≤ x → Laid l at (spaced (bodyWords (i .body))) l1 a1 → Laid l1 a1 (spaced (stateWords i)) l2 a2
+  pub info-done : (i : Info) (l1 l2 l3 out : List ℕ) (a1 a2 a3 q : ℕ) → lineRoom ≤ x → Laid l at (spaced (bodyWords (i .body))) l1 a1 → Laid l1 a1 (spaced (stateWords i)) l2 a2
       → Laid l2 a2 (spaced (countWords i)) l3 a3 → Laid l3 a3 (lineOf (rankWords i)) out q → Lined l at (infoLine i) out q
   info-done i l1 l2 l3 out a1 a2 a3 q t p1 p2 p3 p4 =
       line-done (infoLine i) out q t

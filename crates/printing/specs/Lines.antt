@@ -13,9 +13,13 @@ abbrev pub numberIn : Maybe → Option ℕ
 numberIn (maybe.Number n) = some n
 numberIn maybe.None = none
 
--- a line is laid in where 256 bytes are left, which is more than any line has
+-- the room that is asked for a line: more than any line has
+abbrev pub lineRoom : ℕ
+lineRoom = 256
+
+-- a line is laid in where there is that room
 abbrev pub roomForLine : List ℕ → ℕ → Bool
-roomForLine l at = leb (at + 256) (length l)
+roomForLine l at = leb (at + lineRoom) (length l)
 
 -- l with the line s from place at on; where there is no room, l
 unfoldable pub lined : List ℕ → ℕ → List ℕ → List ℕ

@@ -15,7 +15,7 @@ const SPACE: u8 = 32;
 const NEWLINE: u8 = 10;
 
 // The room that is asked for a line: more than any line has.
-const LINE: usize = 256;
+pub const LINE_ROOM: usize = 256;
 
 // A handle that was pushed out, or the next key; or none.
 pub enum Maybe {
@@ -70,13 +70,13 @@ fn maybe_word(buf: &mut [u8], at: usize, x: Maybe, end: u8) -> usize
     }
 }
 
-// ---- lines: where 256 bytes are left from place at on, the line goes in, and the answer is the place behind it. Where there
+// ---- lines: where there is room for one from place at on, the line goes in, and the answer is the place behind it. Where there
 // are fewer, nothing is done, and the answer is at.
 
 pub fn ok_line(buf: &mut [u8], at: usize) -> usize
     ensures { λ r. ⌜ Lined (now (buf .entry)) at (printed model.ok) (now (buf .exit)) r ⌝ }
 {
-    if left(buf.len(), at) < LINE {
+    if left(buf.len(), at) < LINE_ROOM {
         return at;
     }
     word(buf, at, b"ok", NEWLINE)
@@ -87,7 +87,7 @@ fn number_line(buf: &mut [u8], at: usize, text: &[u8], n: u64) -> usize
     requires { ⌜ length (now text) ≤ 8 ⌝ }
     ensures { λ r. ⌜ Lined (now (buf .entry)) at (numberLine (now (text .entry)) n) (now (buf .exit)) r ⌝ }
 {
-    if left(buf.len(), at) < LINE {
+    if left(buf.len(), at) < LINE_ROOM {
         return at;
     }
     let next = word(buf, at, text, SPACE);
@@ -128,7 +128,7 @@ fn key_and_slot(buf: &mut [u8], at: usize, key: u64, slot: u64) -> usize
 pub fn key_line(buf: &mut [u8], at: usize, key: u64, slot: u64, evicted: Maybe) -> usize
     ensures { λ r. ⌜ Lined (now (buf .entry)) at (printed (model.added key slot (numberIn evicted))) (now (buf .exit)) r ⌝ }
 {
-    if left(buf.len(), at) < LINE {
+    if left(buf.len(), at) < LINE_ROOM {
         return at;
     }
     let a = key_and_slot(buf, at, key, slot);
@@ -139,7 +139,7 @@ pub fn key_line(buf: &mut [u8], at: usize, key: u64, slot: u64, evicted: Maybe) 
 pub fn next_line(buf: &mut [u8], at: usize, key: Maybe) -> usize
     ensures { λ r. ⌜ Lined (now (buf .entry)) at (printed (model.next (numberIn key))) (now (buf .exit)) r ⌝ }
 {
-    if left(buf.len(), at) < LINE {
+    if left(buf.len(), at) < LINE_ROOM {
         return at;
     }
     let next = word(buf, at, b"next", SPACE);
@@ -150,7 +150,7 @@ pub fn next_line(buf: &mut [u8], at: usize, key: Maybe) -> usize
 pub fn pair_line(buf: &mut [u8], at: usize, key: u64, instance: u64) -> usize
     ensures { λ r. ⌜ Lined (now (buf .entry)) at (pairLine (record { key = key; name = instance })) (now (buf .exit)) r ⌝ }
 {
-    if left(buf.len(), at) < LINE {
+    if left(buf.len(), at) < LINE_ROOM {
         return at;
     }
     let next = decimal_word(buf, at, key, SPACE);
@@ -200,7 +200,7 @@ fn ranks(buf: &mut [u8], at: usize, info: Info) -> usize
 pub fn info_line(buf: &mut [u8], at: usize, info: Info) -> usize
     ensures { λ r. ⌜ Lined (now (buf .entry)) at (infoLine info) (now (buf .exit)) r ⌝ }
 {
-    if left(buf.len(), at) < LINE {
+    if left(buf.len(), at) < LINE_ROOM {
         return at;
     }
     let body = info.body;

@@ -1,5 +1,5 @@
 pub mod Format
-pub mod Requests
+pub mod Words
 pub mod NumberLaws
 pub mod RequestLaws
 pub mod PairLaws

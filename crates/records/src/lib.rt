@@ -3,11 +3,12 @@ ghost use mathlib.Core.Path.{_≡_};
 ghost use mathlib.Core.List.{[]};
 ghost use Prim.Native.Nat.{_+_, _*_, _≤_};
 ghost use lib.ListN.{length};
-ghost use Rattle.records.specs.Format.{byteAt, numberAt, twos, masksAt, countIn, bad};
-ghost use Rattle.records.specs.Requests.{sizedOp, setUpOf, arrivalOf, opAt, writerAt, requestOf, countOf, listCount, wordsIn, laidIn, callMeant, faultyArrival};
+ghost use Rattle.records.specs.Format.{byteAt, numberAt, twos, bytesAt, masksAt, instanceIn, setUpIn, arrivalIn, writerIn, countIn, listSize, sizedOp, opIn, requestOf, countOf, listCount, callMeant, bad};
+ghost use Rattle.records.specs.Words.{wordsIn, laidIn};
 ghost use Rattle.records.specs.NumberLaws.{Numbered};
-ghost use Rattle.records.specs.declared.Op.the-variants as op;
+ghost use Rattle.records.specs.RequestLaws.{faultyArrival};
 use readcondition::ReadCondition;
+use sampleinfo::BodyMade;
 
 // The fields of a set-up.
 pub struct SetUp {
@@ -38,11 +39,30 @@ pub enum Op {
     Malformed,
 }
 
-// The operation, and the writer of an add beside it: an enum holds no array.
+// The operation, and the writer of an add beside it, since an enum holds no array; of another operation the writer says nothing.
 pub struct Request {
     pub op: Op,
     pub writer: [u8; 16],
 }
+
+// ---- the size of each record, operation byte and fields; a list's goes by its count
+
+const SET_UP_SIZE: usize = 8;
+
+const ADD_SIZE: usize = 46;
+
+const NO_WRITERS_SIZE: usize = 9;
+
+const CHOOSE_SIZE: usize = 4;
+
+const CHOOSE_WITHIN_SIZE: usize = 12;
+
+const NEXT_KEY_SIZE: usize = 9;
+
+// where the pairs of a list start, and the size of one
+const PAIRS_AT: usize = 3;
+
+const PAIR_SIZE: usize = 16;
 
 // ---- fields
 
@@ -106,6 +126,19 @@ pub fn i32_at(rec: &[u8], at: usize) -> i32
     signed(u32_at(rec, at))
 }
 
+// The 16 bytes of a writer.
+pub fn writer_at(rec: &[u8], at: usize) -> [u8; 16]
+    ensures { λ r. ⌜ r ≡ bytesAt 16 (now (rec .entry)) at ⌝ }
+{
+    let mut writer = [0u8; 16];
+    let mut i = 0;
+    while i < 16 {
+        writer[i] = byte(rec, at, i);
+        i += 1;
+    }
+    writer
+}
+
 fn masks(rec: &[u8], at: usize) -> ReadCondition
     ensures { λ r. ⌜ r ≡ masksAt (now (rec .entry)) at ⌝ }
 {
@@ -116,136 +149,87 @@ fn masks(rec: &[u8], at: usize) -> ReadCondition
     }
 }
 
-// ---- operations: a wrong length is malformed
+// ---- what a record holds behind its operation byte
 
-fn set_up(rec: &[u8]) -> Op
-    ensures { λ r. ⌜ r ≡ sizedOp 8 (now (rec .entry)) (op.SetUp (setUpOf (now (rec .entry)))) ⌝ }
+fn instance_in(rec: &[u8]) -> u64
+    ensures { λ r. ⌜ r ≡ instanceIn (now (rec .entry)) ⌝ }
 {
-    if rec.len() != 8 {
-        return Op::Malformed;
-    }
-    Op::SetUp(SetUp {
+    u64_at(rec, 1)
+}
+
+fn set_up_in(rec: &[u8]) -> SetUp
+    ensures { λ r. ⌜ r ≡ setUpIn (now (rec .entry)) ⌝ }
+{
+    SetUp {
         mode: byte(rec, 1, 0),
         keep: i32_at(rec, 2),
         instances: u16_at(rec, 6),
-    })
+    }
 }
 
-fn add(rec: &[u8]) -> Op
-    ensures { λ r. ⌜ r ≡ sizedOp 46 (now (rec .entry)) (op.Add (arrivalOf (now (rec .entry)))) ⌝ }
+fn arrival_in(rec: &[u8]) -> Arrival
+    ensures { λ r. ⌜ r ≡ arrivalIn (now (rec .entry)) ⌝ }
 {
-    if rec.len() != 46 {
-        return Op::Malformed;
-    }
-    Op::Add(Arrival {
-        instance: u64_at(rec, 1),
+    Arrival {
+        instance: instance_in(rec),
         sequence_number: u64_at(rec, 25),
         time: u64_at(rec, 33),
         kind: byte(rec, 41, 0),
         handle: u32_at(rec, 42),
-    })
-}
-
-fn no_writers(rec: &[u8]) -> Op
-    ensures { λ r. ⌜ r ≡ sizedOp 9 (now (rec .entry)) (op.NoWriters (numberAt 8 (now (rec .entry)) 1)) ⌝ }
-{
-    if rec.len() != 9 {
-        return Op::Malformed;
     }
-    Op::NoWriters(u64_at(rec, 1))
 }
 
-fn choose(rec: &[u8]) -> Op
-    ensures { λ r. ⌜ r ≡ sizedOp 4 (now (rec .entry)) (op.Choose (masksAt (now (rec .entry)) 1)) ⌝ }
+fn writer_in(rec: &[u8]) -> [u8; 16]
+    ensures { λ r. ⌜ r ≡ writerIn (now (rec .entry)) ⌝ }
 {
-    if rec.len() != 4 {
-        return Op::Malformed;
-    }
-    Op::Choose(masks(rec, 1))
+    writer_at(rec, 9)
 }
 
-fn choose_within(rec: &[u8]) -> Op
-    ensures { λ r. ⌜ r ≡ sizedOp 12 (now (rec .entry)) (op.ChooseWithin (numberAt 8 (now (rec .entry)) 1) (masksAt (now (rec .entry)) 9)) ⌝ }
+fn count_in(rec: &[u8]) -> u16
+    ensures { λ r. ⌜ r ≡ countIn (now (rec .entry)) ⌝ }
 {
-    if rec.len() != 12 {
-        return Op::Malformed;
-    }
-    Op::ChooseWithin(u64_at(rec, 1), masks(rec, 9))
+    u16_at(rec, 1)
 }
 
-// The length that a list of this count has.
+// The size of a list of so many pairs.
 fn list_size(count: u16) -> usize
-    ensures { λ r. ⌜ r ≡ 3 + 16 * count ⌝ }
+    ensures { λ r. ⌜ r ≡ listSize count ⌝ }
 {
-    3 + 16 * (count as usize)
+    PAIRS_AT + PAIR_SIZE * (count as usize)
 }
 
-fn read(rec: &[u8]) -> Op
-    ensures { λ r. ⌜ r ≡ sizedOp (3 + 16 * countIn (now (rec .entry))) (now (rec .entry)) (op.Read (countIn (now (rec .entry)))) ⌝ }
+// ---- the request
+
+// A wrong length is malformed.
+fn sized(size: usize, rec: &[u8], op: Op) -> Op
+    ensures { λ r. ⌜ r ≡ sizedOp size (now (rec .entry)) op ⌝ }
 {
-    let count = u16_at(rec, 1);
-    let size = list_size(count);
-    if rec.len() != size {
-        return Op::Malformed;
+    if rec.len() == size {
+        return op;
     }
-    Op::Read(count)
+    Op::Malformed
 }
 
-fn take(rec: &[u8]) -> Op
-    ensures { λ r. ⌜ r ≡ sizedOp (3 + 16 * countIn (now (rec .entry))) (now (rec .entry)) (op.Take (countIn (now (rec .entry)))) ⌝ }
-{
-    let count = u16_at(rec, 1);
-    let size = list_size(count);
-    if rec.len() != size {
-        return Op::Malformed;
-    }
-    Op::Take(count)
-}
-
-fn next_key(rec: &[u8]) -> Op
-    ensures { λ r. ⌜ r ≡ sizedOp 9 (now (rec .entry)) (op.NextKey (numberAt 8 (now (rec .entry)) 1)) ⌝ }
-{
-    if rec.len() != 9 {
-        return Op::Malformed;
-    }
-    Op::NextKey(u64_at(rec, 1))
-}
-
-fn op_of(rec: &[u8]) -> Op
-    ensures { λ r. ⌜ r ≡ opAt (byteAt (now (rec .entry)) 0) (now (rec .entry)) ⌝ }
+fn op_in(rec: &[u8]) -> Op
+    ensures { λ r. ⌜ r ≡ opIn (now (rec .entry)) ⌝ }
 {
     let op = byte(rec, 0, 0);
+    let count = count_in(rec);
     match op {
-        0 => set_up(rec),
-        1 => add(rec),
-        2 => no_writers(rec),
-        3 => choose(rec),
-        4 => choose_within(rec),
-        5 => read(rec),
-        6 => take(rec),
-        7 => next_key(rec),
+        0 => sized(SET_UP_SIZE, rec, Op::SetUp(set_up_in(rec))),
+        1 => sized(ADD_SIZE, rec, Op::Add(arrival_in(rec))),
+        2 => sized(NO_WRITERS_SIZE, rec, Op::NoWriters(instance_in(rec))),
+        3 => sized(CHOOSE_SIZE, rec, Op::Choose(masks(rec, 1))),
+        4 => sized(
+            CHOOSE_WITHIN_SIZE,
+            rec,
+            Op::ChooseWithin(instance_in(rec), masks(rec, 9)),
+        ),
+        5 => sized(list_size(count), rec, Op::Read(count)),
+        6 => sized(list_size(count), rec, Op::Take(count)),
+        7 => sized(NEXT_KEY_SIZE, rec, Op::NextKey(instance_in(rec))),
         _ => Op::Malformed,
     }
-}
-
-// ---- the writer
-
-fn writer_of(rec: &[u8]) -> [u8; 16]
-    ensures { λ r. ⌜ r ≡ writerAt (byteAt (now (rec .entry)) 0) (now (rec .entry)) ⌝ }
-{
-    let mut writer = [0u8; 16];
-    if byte(rec, 0, 0) != 1 {
-        return writer;
-    }
-    if rec.len() != 46 {
-        return writer;
-    }
-    let mut i = 0;
-    while i < 16 {
-        writer[i] = rec[9 + i];
-        i += 1;
-    }
-    writer
 }
 
 // A record to a request.
@@ -253,8 +237,8 @@ pub fn decode(rec: &[u8]) -> Request
     ensures { λ r. ⌜ r ≡ requestOf (now (rec .entry)) ⌝ }
 {
     Request {
-        op: op_of(rec),
-        writer: writer_of(rec),
+        op: op_in(rec),
+        writer: writer_in(rec),
     }
 }
 
@@ -282,7 +266,7 @@ fn words(rec: &[u8]) -> usize
     ensures { λ r. ⌜ r ≡ 2 * listCount (now (rec .entry)) ⌝ }
     ensures { λ r. ⌜ r ≤ 131070 ⌝ }
 {
-    2 * (count(op_of(rec)) as usize)
+    2 * (count(op_in(rec)) as usize)
 }
 
 // The pairs of a list record go to the front of the lent words, a key and then its instance, and the answer is the number of words.
@@ -297,7 +281,7 @@ pub fn pairs_of(rec: &[u8], out: &mut [u64]) -> usize
     }
     let mut i = 0;
     while i < n {
-        out[i] = u64_at(rec, 3 + 8 * i);
+        out[i] = u64_at(rec, PAIRS_AT + 8 * i);
         i += 1;
     }
     n
@@ -308,31 +292,29 @@ pub fn pairs_of(rec: &[u8], out: &mut [u64]) -> usize
 fn is_faulty(a: Arrival) -> bool
     ensures { λ r. ⌜ r ≡ faultyArrival a ⌝ }
 {
-    if a.sequence_number < 1 {
-        return true;
+    match sampleinfo::Body::arrived(a.kind, a.handle, a.sequence_number) {
+        BodyMade::Refused => true,
+        BodyMade::Body(_) => false,
     }
-    if 9223372036854775807 < a.sequence_number {
-        return true;
-    }
-    (a.kind != 1) & (a.kind != 2)
 }
 
 impl Request {
+    // The longest record that two length bytes tell, and the words of its pairs if it is a list.
+    pub const LONGEST: usize = 65535;
+
+    pub const LIST_WORDS: usize = 2 * (Request::LONGEST / PAIR_SIZE);
+
     // The record is refused with 1, whatever came before it: malformed, or a kind, sequence number or mask out of its bounds.
     pub fn is_bad(self) -> bool
         ensures { λ r. ⌜ r ≡ bad (callMeant self []) ⌝ }
     {
         let op = self.op;
         match op {
-            Op::SetUp(_) => false,
             Op::Add(a) => is_faulty(a),
-            Op::NoWriters(_) => false,
             Op::Choose(c) => !c.is_valid(),
             Op::ChooseWithin(_, c) => !c.is_valid(),
-            Op::Read(_) => false,
-            Op::Take(_) => false,
-            Op::NextKey(_) => false,
             Op::Malformed => true,
+            _ => false,
         }
     }
 }

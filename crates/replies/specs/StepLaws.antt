@@ -25,8 +25,7 @@ use mathlib.Core.List.{[]}
 use Rattle.datasample_cache.specs.declared.AddOutcome.{AddOutcome}
 use Rattle.datasample_cache.specs.declared.SetUpOutcome.{SetUpOutcome}
 use Rattle.datasample_access.specs.declared.ListOutcome.{ListOutcome}
-use Rattle.records.specs.Format.{bad}
-use Rattle.records.specs.Requests.{callMeant}
+use Rattle.records.specs.Format.{callMeant, bad}
 use Rattle.records.specs.declared.Request.{Request}
 use Rattle.replies.specs.declared.Session.{Session}
 use Rattle.replies.specs.declared.Replied.{Replied}

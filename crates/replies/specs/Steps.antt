@@ -21,8 +21,7 @@ use Rattle.select.specs.declared.Chosen.the-variants as chosen
 use Rattle.datasample_access.specs.declared.Listed.{Listed}
 use Rattle.datasample_access.specs.declared.Listed.the-variants as listed
 use Rattle.datasample_access.specs.declared.ListOutcome.{ListOutcome}
-use Rattle.records.specs.Format.{bad}
-use Rattle.records.specs.Requests.{callMeant}
+use Rattle.records.specs.Format.{callMeant, bad}
 use Rattle.records.specs.declared.Op.{Op}
 use Rattle.records.specs.declared.Op.the-variants as op
 use Rattle.records.specs.declared.Request.{Request}

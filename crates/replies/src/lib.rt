@@ -148,7 +148,7 @@ pub fn list_done(r: datasample_access::ListOutcome) -> Replied
     ready(head, list_reply(answer))
 }
 
-// As many words as there are: a record of 65,535 bytes has no more than 8,190.
+// As many words as there are: no record has more than the lent list.
 pub fn at_most(n: usize, most: usize) -> usize
     ensures { λ r. ⌜ r ≡ atMost n most ⌝ }
 {

@@ -1,6 +1,7 @@
 // sampleinfo.rs: the states of a sample, its view and its instance, the generation counts, the records that hold them, and the lifecycle step.
 ghost use mathlib.Core.Path.{_≡_};
 ghost use Rattle.sampleinfo.specs.States.{sampleBit, viewBit, instanceBit, instanceOfBit, kindOf, handleOf, madeBy, bodyOf, bodyNumber, kindNumber, anySample, anyView, anyInstance, notAlive};
+ghost use Rattle.sampleinfo.specs.Formed.{seqFits, arrivedBody};
 ghost use Prim.Native.Nat.{_<_};
 ghost use Rattle.sampleinfo.specs.Counts.{zero, total, disposedPlus, noWritersPlus, never, accessedAt};
 ghost use Rattle.sampleinfo.specs.Lifecycle.{newInstance, withState, isLast, lifecycleOf, lifecycleNumber, steppedOf, steppedNumber, noWritersOf};
@@ -181,7 +182,27 @@ impl NotAliveGenerationCounts {
     }
 }
 
+// The range of sequence numbers, 1 to 2^63-1, for the cache and for the topic cache.
+pub fn sequence_number_fits(n: u64) -> bool
+    ensures { λ r. ⌜ r ≡ seqFits n ⌝ }
+{
+    if n == 0 {
+        return false;
+    }
+    n < 0x8000_0000_0000_0000
+}
+
 impl Body {
+    // The body of an add, or refusal 1: a sequence number out of range, or a kind that is neither.
+    pub fn arrived(kind: u8, handle: u32, sequence_number: u64) -> BodyMade
+        ensures { λ r. ⌜ r ≡ arrivedBody kind handle «sequence_number» ⌝ }
+    {
+        if sequence_number_fits(sequence_number) {
+            return Body::of(kind, handle);
+        }
+        BodyMade::Refused
+    }
+
     // 1 a value, 2 a dispose, anything else is refused with 1
     pub fn of(kind: u8, handle: u32) -> BodyMade
         ensures { λ r. ⌜ (r ≡ bodyOf kind handle) × (bodyNumber r ≡ kindNumber kind) ⌝ }

@@ -14,6 +14,7 @@ use Rattle.model.specs.Model.{Model}
 use Rattle.printing.specs.Printout.{printed}
 use Rattle.printing.specs.Lines.{Laid}
 use Rattle.replies.specs.declared.Session.{Session}
+use Rattle.records.specs.Format.{tooLong}
 use Rattle.session.specs.declared.Answered.{Answered}
 use Rattle.session.specs.Session.{turn, printout}
 use Rattle.session.specs.Stands.{Stands, Responds}
@@ -24,7 +25,7 @@ use Rattle.session.proofs.Lent.respond.Reads as respond
 pub data Talks : Session → List ℕ → List Sample → List (List ℕ) → List ℕ → Type 0 where
   done : {s : Session} {ws : List ℕ} {t : List Sample} → Talks s ws t [] []
   then : {recs : List (List ℕ)} {out : List ℕ} (κs : Lfts 6) (s : Session) (ws ws′ : RefT (List ℕ)) (t t′ : RefT (List Sample)) (rec pairs pairs′ infos infos′ line line′ : RefT (List ℕ)) (r : Answered)
-      → length (now rec) < 65536
+      → length (now rec) < tooLong
       → respond.Learnt κs (s, (ws, (t, (rec, (pairs, (infos, (line, tt))))))) r (s, (ws′, (t′, (rec, (pairs′, (infos′, (line′, tt)))))))
       → Talks (r .session) (now ws′) (now t′) recs out → Talks s (now ws) (now t) (now rec ∷ recs) (take (r .size) (now line′) ++ out)
 

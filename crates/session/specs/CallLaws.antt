@@ -45,12 +45,13 @@ use Rattle.datasample_access.specs.Listed as list
 use Rattle.datasample_access.specs.Listed.{listing}
 use Rattle.datasample_access.specs.declared.Listed.{Listed}
 use Rattle.datasample_access.specs.declared.ListOutcome.{ListOutcome}
-use Rattle.records.specs.Format.{buffer}
-use Rattle.records.specs.Requests.{setUpMeant, arrivalMeant, listPairs, wordsOf, wordsIn, laidIn}
+use Rattle.records.specs.Format.{tooLong, listPairs, setUpMeant, arrivalMeant, buffer}
+use Rattle.records.specs.Words.{listWords, wordsOf, wordsIn, laidIn}
 use Rattle.records.specs.PairLaws.{words-fit, words-laid}
 use Rattle.records.specs.declared.SetUp.{SetUp}
 use Rattle.records.specs.declared.Arrival.{Arrival}
 use Rattle.printing.specs.Lines.{numberIn}
+use Rattle.answers.specs.Sizes.{pairsSize, infoSize, infosSize}
 use Rattle.answers.specs.Says.{Says}
 use Rattle.answers.specs.declared.Reply.{Reply}
 use Rattle.session.specs.Session.{answering, refuse}
@@ -103,7 +104,7 @@ choose-says is was out a (chosen.Refused n) h = sym (h .answer)
 infos-again : (out after : List ℕ) (xs : List Info) → after ≡ infosThen out xs → after ≡ infosThen after xs
 unfolding infosThen
 infos-again out after xs e =
-    let z : drop (27 * length xs) after ≡ drop (27 * length xs) out = rw e (drop-at (wordsOfInfos xs) (drop (27 * length xs) out) (27 * length xs) (length-words xs)) in
+    let z : drop (infoSize * length xs) after ≡ drop (infoSize * length xs) out = rw e (drop-at (wordsOfInfos xs) (drop (infoSize * length xs) out) (infoSize * length xs) (length-words xs)) in
     e ∙ ap (λ (r : List ℕ). wordsOfInfos xs ++ r) (sym z)
 
 list-says : (ps out after : List ℕ) (a : Answer) (x : Listed) → list.Told a x out after → SmallAnswer a → Says (listSaid x) ps after a
@@ -171,17 +172,17 @@ listing-is : (m : Model) (take : Bool) (ps : List Pair) (keys : List ℕ) (room 
 unfolding listing wholePairs
 listing-is m take ps keys room P k n h = rw (k, n, words-even ps, pairs-back ps) at h
 
--- the list has 8,190 words: as many as were asked for, or all
-pub front-long : (l : List ℕ) (n k : ℕ) → k ≡ atMost n 8190 → length l ≡ 8190 → k ≡ length (take k l)
-front-long l n k h e = omega (arith, at-most-there n 8190, length-take k l)
+-- the list has room for the longest: as many words as were asked for, or all
+pub front-long : (l : List ℕ) (n k : ℕ) → k ≡ atMost n listWords → length l ≡ listWords → k ≡ length (take k l)
+front-long l n k h e = omega (arith, at-most-there n listWords, length-take k l)
 
-pub front-there : (l : List ℕ) (n k : ℕ) → k ≡ atMost n 8190 → length l ≡ 8190 → k ≤ length l
-front-there l n k h e = omega (arith, at-most-there n 8190)
+pub front-there : (l : List ℕ) (n k : ℕ) → k ≡ atMost n listWords → length l ≡ listWords → k ≤ length l
+front-there l n k h e = omega (arith, at-most-there n listWords)
 
 -- the words of a record stand at the front of the list
-front-words : (rec buf now′ : List ℕ) (n k : ℕ) → n ≡ length (wordsIn rec) → now′ ≡ laidIn buf (wordsIn rec) → k ≡ atMost n 8190 → length (wordsIn rec) ≤ 8190 → length buf ≡ 8190
+front-words : (rec buf now′ : List ℕ) (n k : ℕ) → n ≡ length (wordsIn rec) → now′ ≡ laidIn buf (wordsIn rec) → k ≡ atMost n listWords → length (wordsIn rec) ≤ listWords → length buf ≡ listWords
     → take k now′ ≡ wordsIn rec
-front-words rec buf now′ n k en el ek few long = rw (ek ∙ at-most-is n 8190 (omega arith), en, el) (words-laid rec buf (omega arith))
+front-words rec buf now′ n k en el ek few long = rw (ek ∙ at-most-is n listWords (omega arith), en, el) (words-laid rec buf (omega arith))
 
 -- ---- the calls
 
@@ -220,13 +221,13 @@ module _ (s : Session) (ws after : List ℕ) (t then : List Sample) (q : Replied
   -- the words of the record were laid at the front of the list, which has room for those of any record
   pub list-answers : (taken b : Bool) (rec buf now′ was out : List ℕ) (n k : ℕ) (r : ListOutcome) → q ≡ listDone r
       → ((m : Model) → Good m → Lies m (s .head) ws t → list.Came (listing m b (take k now′) (placesIn was)) r after then was out) → taken ≡ b
-      → now′ ≡ laidIn buf (wordsIn rec) → n ≡ length (wordsIn rec) → k ≡ atMost n 8190 → length was ≡ 6912
-      → length buf ≡ 8190 → (m : Model) (ps : List ℕ) → length rec < 65536 → Ready m s ws t → Answers (answering (some m) (Call.list taken (listPairs rec) buffer)) s ws t ps was q after then ps out
+      → now′ ≡ laidIn buf (wordsIn rec) → n ≡ length (wordsIn rec) → k ≡ atMost n listWords → length was ≡ infosSize
+      → length buf ≡ listWords → (m : Model) (ps : List ℕ) → length rec < tooLong → Ready m s ws t → Answers (answering (some m) (Call.list taken (listPairs rec) buffer)) s ws t ps was q after then ps out
   unfolding answering
   list-answers taken b rec buf now′ was out n k r e f eb el en ek room big m ps h l =
       let c : Call = Call.list b (listPairs rec) buffer in
       let x : list.Came (step m c) r after then was out = listing-is m b (listPairs rec) (take k now′) (placesIn was) (λ st. list.Came st r after then was out)
-      (front-words rec buf now′ n k en el ek (omega (arith, words-fit rec (omega arith))) big) (ap (λ i. i / 27) room) (f m (l .good) (l .lies)) in
+      (front-words rec buf now′ n k en el ek (words-fit rec h) big) (ap (λ i. i / infoSize) room) (f m (l .good) (l .lies)) in
       rw (e, eb)
       (record {
         says = list-says ps was out (step m c .answer) (r .answer) (x .answer) (small-answer m (l .good) (l .small) c);
@@ -236,7 +237,7 @@ module _ (s : Session) (ws after : List ℕ) (t then : List Sample) (q : Replied
         infos = told-left was out (step m c .answer) (r .answer) (x .answer) ps .1;
       })
 
-  pub choose-answers : (w : Option ℕ) (c : ReadCondition) (was out : List ℕ) (r : Chosen) → q ≡ said s (chooseSaid r) → length was ≡ 512
+  pub choose-answers : (w : Option ℕ) (c : ReadCondition) (was out : List ℕ) (r : Chosen) → q ≡ said s (chooseSaid r) → length was ≡ pairsSize
       → ((m : Model) → Good m → Lies m (s .head) ws t → select.Told (step m (Call.look w c (length was / 2)) .answer) r was out)
       → (m : Model) (is : List ℕ) → Ready m s ws t → Answers (answering (some m) (Call.look w c buffer)) s ws t was is q ws t out is
   unfolding answering step

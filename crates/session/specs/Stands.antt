@@ -11,7 +11,7 @@ use Rattle.refine.specs.Good.{Good}
 use Rattle.memory.specs.Lies.{Lies}
 use Rattle.pairs.specs.Flat.{pairWords}
 use Rattle.infos.specs.Words.{infosThen}
-use Rattle.records.specs.Format.{callOf, bad}
+use Rattle.records.specs.Format.{tooLong, callOf, bad}
 use Rattle.replies.specs.Steps.{declinedWith}
 use Rattle.bounds.specs.Small.{AllSmall}
 use Rattle.printing.specs.Printout.{printed}
@@ -77,7 +77,7 @@ pub record Answers (u : Turn) (s : Session) (ws : List ℕ) (t : List Sample) (p
 
 -- a record's reply: its turn, where something stands; and a malformed record is refused with 1 and leaves all as found, whatever lies in memory
 pub record Turns (rec : List ℕ) (s : Session) (ws : List ℕ) (t : List Sample) (ps is : List ℕ) (r : Replied) (after : List ℕ) (then : List Sample) (qs js : List ℕ) : Type 0 where
-  pub stood : (st : Option Model) → length rec < 65536 → Stands st s ws t → Answers (turn st rec) s ws t ps is r after then qs js
+  pub stood : (st : Option Model) → length rec < tooLong → Stands st s ws t → Answers (turn st rec) s ws t ps is r after then qs js
   pub malformed : bad (callOf rec) ≡ true → (r ≡ declinedWith s 1) × (after ≡ ws) × (then ≡ t) × (qs ≡ ps) × (js ≡ is)
 
 -- the lines of the answer stand first in the lent bytes, and the rest of them is as it was
@@ -89,5 +89,5 @@ pub record Responds (u : Turn) (s : Session) (ws : List ℕ) (t : List Sample) (
   pub infos : js ≡ infosLeft (u .answer) is
 
 pub record Responded (rec : List ℕ) (s : Session) (ws : List ℕ) (t : List Sample) (ps is was : List ℕ) (r : Answered) (after : List ℕ) (then : List Sample) (qs js line : List ℕ) : Type 0 where
-  pub stood : (st : Option Model) → length rec < 65536 → Stands st s ws t → Responds (turn st rec) s ws t ps is was r after then qs js line
+  pub stood : (st : Option Model) → length rec < tooLong → Stands st s ws t → Responds (turn st rec) s ws t ps is was r after then qs js line
   pub malformed : bad (callOf rec) ≡ true → Laid was 0 (printed (refused 1)) line (r .size) × (r .session ≡ s) × (after ≡ ws) × (then ≡ t) × (qs ≡ ps) × (js ≡ is)

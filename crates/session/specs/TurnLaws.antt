@@ -11,9 +11,8 @@ use Rattle.readcondition.specs.declared.ReadCondition.{ReadCondition}
 use Rattle.model.specs.Pairs.{Pair}
 use Rattle.model.specs.Model as M
 use Rattle.model.specs.Model.{Model, Call}
-use Rattle.records.specs.Format.{callOf, bad, buffer}
-use Rattle.records.specs.Requests.{requestOf, opMeant, setUpMeant, arrivalMeant, listPairs}
-use Rattle.records.specs.RequestLaws.{request-means, request-bad}
+use Rattle.records.specs.Format.{tooLong, requestOf, listPairs, setUpMeant, arrivalMeant, opMeant, callOf, bad, buffer}
+use Rattle.records.specs.RequestLaws.{request-bad}
 use Rattle.records.specs.declared.SetUp.{SetUp}
 use Rattle.records.specs.declared.Arrival.{Arrival}
 use Rattle.records.specs.declared.Op.{Op}
@@ -79,7 +78,7 @@ module _ (s : Session) (ws : List ℕ) (t : List Sample) (rec : List ℕ) (q : R
   told st l = go (bad (callOf rec)) refl
     where
       two : bad (callOf rec) ≡ false → (y : Bool) → same (isSetUp (requestOf rec .op)) (isReady st) ≡ y → turn st rec ≡ cond y (refuse st 10) (turn st rec)
-      two b true k = rw (request-means rec) (turn-ten st (requestOf rec .op) (requestOf rec .writer) (listPairs rec) (rw (← request-means rec) b) k)
+      two b true k = turn-ten st (requestOf rec .op) (requestOf rec .writer) (listPairs rec) b k
       two b false k = refl
 
       go : (b : Bool) → bad (callOf rec) ≡ b → turn st rec ≡ cond b (refuse st 1) (cond (same (isSetUp (requestOf rec .op)) (isReady st)) (refuse st 10) (turn st rec))
@@ -92,7 +91,7 @@ module _ (s : Session) (ws : List ℕ) (t : List Sample) (rec : List ℕ) (q : R
 
   -- the call that the request means
   means : (o : Op) → q .op ≡ o → callOf rec ≡ opMeant o (q .writer) (listPairs rec)
-  means o k = request-means rec ∙ rw (← k, e) refl
+  means o k = rw (← k, e) refl
 
   -- of a malformed record the number is 1, whatever stands
   bad-number : bad (callOf rec) ≡ true → n ≡ 1
@@ -125,14 +124,14 @@ module _ (s : Session) (ws : List ℕ) (t : List Sample) (rec : List ℕ) (q : R
 
   module _ (z : n ≡ 0) (r : Replied) (after : List ℕ) (then : List Sample) (ps is qs js : List ℕ) where
     -- the record is not malformed
-    whole : ((st : Option Model) → length rec < 65536 → Stands st s ws t → Answers (turn st rec) s ws t ps is r after then qs js) → Turns rec s ws t ps is r after then qs js
+    whole : ((st : Option Model) → length rec < tooLong → Stands st s ws t → Answers (turn st rec) s ws t ps is r after then qs js) → Turns rec s ws t ps is r after then qs js
     whole g = record { stood = g; malformed = λ b. absurd (omega (arith, z, bad-number b)) }
 
-    turn-call : (c : Call) → callOf rec ≡ some c → isSetUp (q .op) ≡ false → ((m : Model) → length rec < 65536 → Stands (some m) s ws t → Answers (answering (some m) c) s ws t ps is r after then qs js)
+    turn-call : (c : Call) → callOf rec ≡ some c → isSetUp (q .op) ≡ false → ((m : Model) → length rec < tooLong → Stands (some m) s ws t → Answers (answering (some m) c) s ws t ps is r after then qs js)
         → Turns rec s ws t ps is r after then qs js
     turn-call c k o g = whole (λ st h l. go h st l (rw o at (asked z st l .1)))
       where
-        go : length rec < 65536 → (st : Option Model) → Stands st s ws t → same false (isReady st) ≡ false → Answers (turn st rec) s ws t ps is r after then qs js
+        go : length rec < tooLong → (st : Option Model) → Stands st s ws t → same false (isReady st) ≡ false → Answers (turn st rec) s ws t ps is r after then qs js
         go h none l y = no y
         go h (some m) l y = rw (is-call z c (some m) l k) (g m h l)
 
@@ -165,11 +164,11 @@ module _ (s : Session) (ws : List ℕ) (t : List Sample) (rec : List ℕ) (q : R
         → ((m : Model) (is : List ℕ) → Stands (some m) s ws t → Answers (answering (some m) (M.look (some i) c buffer)) s ws t ps is r ws t qs is) → Turns rec s ws t ps is r after then qs is
     turn-choose-within i c qs o same-words same-table g = turn-call z r after then ps is qs is (M.look (some i) c buffer) (means (op.ChooseWithin i c) o) (ap isSetUp o) (λ m h k. rw (same-words, same-table) (g m is k))
 
-    pub turn-read : (i : ℕ) (js : List ℕ) → q .op ≡ op.Read i → ((m : Model) (ps : List ℕ) → length rec < 65536 → Stands (some m) s ws t → Answers (answering (some m) (M.list false (listPairs rec) buffer)) s ws t ps is r after then ps js)
+    pub turn-read : (i : ℕ) (js : List ℕ) → q .op ≡ op.Read i → ((m : Model) (ps : List ℕ) → length rec < tooLong → Stands (some m) s ws t → Answers (answering (some m) (M.list false (listPairs rec) buffer)) s ws t ps is r after then ps js)
         → Turns rec s ws t ps is r after then ps js
     turn-read i js o g = turn-call z r after then ps is ps js (M.list false (listPairs rec) buffer) (means (op.Read i) o) (ap isSetUp o) (λ m. g m ps)
 
-    pub turn-take : (i : ℕ) (js : List ℕ) → q .op ≡ op.Take i → ((m : Model) (ps : List ℕ) → length rec < 65536 → Stands (some m) s ws t → Answers (answering (some m) (M.list true (listPairs rec) buffer)) s ws t ps is r after then ps js)
+    pub turn-take : (i : ℕ) (js : List ℕ) → q .op ≡ op.Take i → ((m : Model) (ps : List ℕ) → length rec < tooLong → Stands (some m) s ws t → Answers (answering (some m) (M.list true (listPairs rec) buffer)) s ws t ps is r after then ps js)
         → Turns rec s ws t ps is r after then ps js
     turn-take i js o g = turn-call z r after then ps is ps js (M.list true (listPairs rec) buffer) (means (op.Take i) o) (ap isSetUp o) (λ m. g m ps)
 

@@ -5,8 +5,7 @@ ghost use mathlib.Core.Option.{Option};
 ghost use Prim.Native.Nat.{ℕ, _<_};
 ghost use Rattle.model.specs.Model as model;
 ghost use Rattle.model.specs.Model.{Model};
-ghost use Rattle.records.specs.Requests.{setUpMeant, arrivalMeant, listPairs};
-ghost use Rattle.records.specs.Format.{buffer};
+ghost use Rattle.records.specs.Format.{tooLong, listPairs, setUpMeant, arrivalMeant, buffer};
 ghost use Rattle.sampleinfo.specs.declared.Sample.{Sample};
 ghost use lib.ListN.{length};
 ghost use Rattle.printing.specs.Printout as print;
@@ -15,6 +14,9 @@ ghost use Rattle.answers.specs.Says.{Says};
 ghost use Rattle.replies.specs.Steps.{starting};
 ghost use Rattle.session.specs.Session.{answering};
 ghost use Rattle.session.specs.Stands.{Stands, Answers, Turns, Responded};
+use answers::Reply;
+use index::Cache;
+use records::Request;
 use replies::Replied;
 use replies::Session;
 
@@ -28,7 +30,7 @@ pub struct Answered {
 
 fn do_set_up(
     s: Session,
-    ws: &mut [u64; 928],
+    ws: &mut [u64; Cache::WORDS],
     t: &mut [sampleinfo::Sample],
     u: records::SetUp,
 ) -> Replied
@@ -43,7 +45,7 @@ fn do_set_up(
 
 fn do_add(
     s: Session,
-    ws: &mut [u64; 928],
+    ws: &mut [u64; Cache::WORDS],
     t: &mut [sampleinfo::Sample],
     a: records::Arrival,
     writer: [u8; 16],
@@ -70,10 +72,10 @@ fn do_add(
 
 fn do_choose(
     s: Session,
-    ws: &[u64; 928],
+    ws: &[u64; Cache::WORDS],
     t: &[sampleinfo::Sample],
     rc: readcondition::ReadCondition,
-    pairs: &mut [u64; 512],
+    pairs: &mut [u64; Reply::PAIRS_SIZE],
 ) -> Replied
     ensures { λ r. ⌜ ((m : Model) (is : List ℕ) → Stands (Option.some m) s (now (ws .entry)) (now (t .entry)) → Answers (answering (Option.some m) (model.look Option.none rc buffer)) s (now (ws .entry)) (now (t .entry)) (now (pairs .entry)) is r (now (ws .entry)) (now (t .entry)) (now (pairs .exit)) is) ⌝ }
 {
@@ -84,11 +86,11 @@ fn do_choose(
 
 fn do_choose_within(
     s: Session,
-    ws: &[u64; 928],
+    ws: &[u64; Cache::WORDS],
     t: &[sampleinfo::Sample],
     instance: u64,
     rc: readcondition::ReadCondition,
-    pairs: &mut [u64; 512],
+    pairs: &mut [u64; Reply::PAIRS_SIZE],
 ) -> Replied
     ensures { λ r. ⌜ ((m : Model) (is : List ℕ) → Stands (Option.some m) s (now (ws .entry)) (now (t .entry)) → Answers (answering (Option.some m) (model.look (Option.some instance) rc buffer)) s (now (ws .entry)) (now (t .entry)) (now (pairs .entry)) is r (now (ws .entry)) (now (t .entry)) (now (pairs .exit)) is) ⌝ }
 {
@@ -101,16 +103,16 @@ fn do_choose_within(
 
 fn do_list(
     s: Session,
-    ws: &mut [u64; 928],
+    ws: &mut [u64; Cache::WORDS],
     t: &mut [sampleinfo::Sample],
     rec: &[u8],
     take: bool,
-    infos: &mut [u64; 6912],
+    infos: &mut [u64; Reply::INFOS_SIZE],
 ) -> Replied
-    ensures { λ r. ⌜ ((m : Model) (ps : List ℕ) → length (now (rec .entry)) < 65536 → Stands (Option.some m) s (now (ws .entry)) (now (t .entry)) → Answers (answering (Option.some m) (model.list take (listPairs (now (rec .entry))) buffer)) s (now (ws .entry)) (now (t .entry)) ps (now (infos .entry)) r (now (ws .exit)) (now (t .exit)) ps (now (infos .exit))) ⌝ }
+    ensures { λ r. ⌜ ((m : Model) (ps : List ℕ) → length (now (rec .entry)) < tooLong → Stands (Option.some m) s (now (ws .entry)) (now (t .entry)) → Answers (answering (Option.some m) (model.list take (listPairs (now (rec .entry))) buffer)) s (now (ws .entry)) (now (t .entry)) ps (now (infos .entry)) r (now (ws .exit)) (now (t .exit)) ps (now (infos .exit))) ⌝ }
 {
     let head = s.head;
-    let mut list = [0u64; 8190];
+    let mut list = [0u64; Request::LIST_WORDS];
     let words = records::pairs_of(rec, &mut list);
     let n = replies::at_most(words, list.len());
     if take {
@@ -123,7 +125,7 @@ fn do_list(
 
 // ---- the no-writers event, and the next key
 
-fn do_no_writers(s: Session, ws: &mut [u64; 928], instance: u64) -> Replied
+fn do_no_writers(s: Session, ws: &mut [u64; Cache::WORDS], instance: u64) -> Replied
     ensures { λ r. ⌜ ((m : Model) (t : List Sample) (ps is : List ℕ) → Stands (Option.some m) s (now (ws .entry)) t → Answers (answering (Option.some m) (model.dies instance)) s (now (ws .entry)) t ps is r (now (ws .exit)) t ps is) ⌝ }
 {
     let head = s.head;
@@ -134,7 +136,7 @@ fn do_no_writers(s: Session, ws: &mut [u64; 928], instance: u64) -> Replied
     }
 }
 
-fn do_next_key(s: Session, ws: &[u64; 928], instance: u64) -> Replied
+fn do_next_key(s: Session, ws: &[u64; Cache::WORDS], instance: u64) -> Replied
     ensures { λ r. ⌜ ((m : Model) (t : List Sample) (ps is : List ℕ) → Stands (Option.some m) s (now (ws .entry)) t → Answers (answering (Option.some m) (model.after instance)) s (now (ws .entry)) t ps is r (now (ws .entry)) t ps is) ⌝ }
 {
     let head = s.head;
@@ -149,11 +151,11 @@ fn do_next_key(s: Session, ws: &[u64; 928], instance: u64) -> Replied
 
 fn answer(
     s: Session,
-    ws: &mut [u64; 928],
+    ws: &mut [u64; Cache::WORDS],
     t: &mut [sampleinfo::Sample],
     rec: &[u8],
-    pairs: &mut [u64; 512],
-    infos: &mut [u64; 6912],
+    pairs: &mut [u64; Reply::PAIRS_SIZE],
+    infos: &mut [u64; Reply::INFOS_SIZE],
 ) -> Replied
     ensures { λ r. ⌜ Turns (now (rec .entry)) s (now (ws .entry)) (now (t .entry)) (now (pairs .entry)) (now (infos .entry)) r (now (ws .exit)) (now (t .exit)) (now (pairs .exit)) (now (infos .exit)) ⌝ }
 {
@@ -177,7 +179,12 @@ fn answer(
     }
 }
 
-fn printed(r: Replied, pairs: &[u64; 512], infos: &[u64; 6912], line: &mut [u8; 66048]) -> Answered
+fn printed(
+    r: Replied,
+    pairs: &[u64; Reply::PAIRS_SIZE],
+    infos: &[u64; Reply::INFOS_SIZE],
+    line: &mut [u8; Reply::LINES_SIZE],
+) -> Answered
     ensures { λ n. ⌜ (n .session ≡ r .session) × ((a : model.Answer) → Says (r .reply) (now (pairs .entry)) (now (infos .entry)) a → Laid (now (line .entry)) 0 (print.printed a) (now (line .exit)) (n .size)) ⌝ }
 {
     let reply = r.reply;
@@ -193,12 +200,12 @@ fn printed(r: Replied, pairs: &[u64; 512], infos: &[u64; 6912], line: &mut [u8; 
 // and `infos`.
 pub fn respond(
     s: Session,
-    ws: &mut [u64; 928],
+    ws: &mut [u64; Cache::WORDS],
     t: &mut [sampleinfo::Sample],
     rec: &[u8],
-    pairs: &mut [u64; 512],
-    infos: &mut [u64; 6912],
-    line: &mut [u8; 66048],
+    pairs: &mut [u64; Reply::PAIRS_SIZE],
+    infos: &mut [u64; Reply::INFOS_SIZE],
+    line: &mut [u8; Reply::LINES_SIZE],
 ) -> Answered
     ensures { λ r. ⌜ Responded (now (rec .entry)) s (now (ws .entry)) (now (t .entry)) (now (pairs .entry)) (now (infos .entry)) (now (line .entry)) r (now (ws .exit)) (now (t .exit)) (now (pairs .exit)) (now (infos .exit)) (now (line .exit)) ⌝ }
 {
@@ -211,7 +218,7 @@ pub fn start() -> Session
     ensures { λ s. ⌜ s ≡ starting ⌝ }
 {
     Session {
-        head: index::Cache {
+        head: Cache {
             depth: 0,
             room: 0,
             held: 0,

@@ -10,6 +10,7 @@ use dds_cache::KeepLimits;
 use dds_cache::TopicCache;
 use dds_cache::Update;
 use frames::Piece;
+use records::Request;
 use topic_records::Op;
 
 const SPACE: u8 = 32;
@@ -113,7 +114,7 @@ fn with_cache(cache: TopicCache) -> Session {
 }
 
 // A new starts afresh; a refused one leaves the session as it was.
-fn do_new(s: Session, words: &mut [u64; 2304], rec: &[u8]) -> Session {
+fn do_new(s: Session, words: &mut [u64; CacheChange::TABLE], rec: &[u8]) -> Session {
     let history = topic_records::history_in(rec);
     match TopicCache::new(history, topic_records::most_in(rec), words) {
         Created::Cache(cache) => {
@@ -149,7 +150,7 @@ fn print_added(answer: Added) {
     }
 }
 
-fn do_add(cache: TopicCache, words: &mut [u64; 2304], rec: &[u8]) -> TopicCache {
+fn do_add(cache: TopicCache, words: &mut [u64; CacheChange::TABLE], rec: &[u8]) -> TopicCache {
     let outcome = cache.add_change(
         words,
         records::u64_at(rec, 33),
@@ -160,7 +161,7 @@ fn do_add(cache: TopicCache, words: &mut [u64; 2304], rec: &[u8]) -> TopicCache 
     outcome.cache
 }
 
-fn do_remove(cache: TopicCache, words: &mut [u64; 2304], rec: &[u8]) -> TopicCache {
+fn do_remove(cache: TopicCache, words: &mut [u64; CacheChange::TABLE], rec: &[u8]) -> TopicCache {
     let then = cache.remove_changes_before(words, records::u64_at(rec, 1));
     ok();
     then
@@ -174,8 +175,8 @@ fn print_entries(res: &[u64], n: usize) {
 }
 
 // The results have room for every place, so refusal 9 does not come.
-fn do_range(cache: TopicCache, words: &[u64; 2304], rec: &[u8]) {
-    let mut res = [0u64; 2304];
+fn do_range(cache: TopicCache, words: &[u64; CacheChange::TABLE], rec: &[u8]) {
+    let mut res = [0u64; CacheChange::TABLE];
     let start = records::u64_at(rec, 1);
     let end = records::u64_at(rec, 9);
     match cache.get_changes_in_range_best_effort(words, start, end, &mut res) {
@@ -197,7 +198,7 @@ fn fresh() -> Session {
     }
 }
 
-fn respond(s: Session, words: &mut [u64; 2304], rec: &[u8]) -> Session {
+fn respond(s: Session, words: &mut [u64; CacheChange::TABLE], rec: &[u8]) -> Session {
     let op = topic_records::op_of(rec);
     let n = op.refusal(s.ready);
     if n != 0 {
@@ -239,7 +240,12 @@ struct After {
 }
 
 // One record: read whole and answered.
-fn one_record(s: Session, words: &mut [u64; 2304], two: &mut [u8], rec: &mut [u8]) -> After {
+fn one_record(
+    s: Session,
+    words: &mut [u64; CacheChange::TABLE],
+    two: &mut [u8],
+    rec: &mut [u8],
+) -> After {
     let came = frames::next_record(two, rec);
     let piece = came.piece;
     if !piece.go {
@@ -263,9 +269,9 @@ fn main() {
         over(version);
         return;
     }
-    let mut words = [0u64; 2304];
+    let mut words = [0u64; CacheChange::TABLE];
     let mut two = [0u8; 2];
-    let mut rec = [0u8; 65535];
+    let mut rec = [0u8; Request::LONGEST];
     let mut s = fresh();
     let mut turns = u64::MAX;
     while turns > 0 {

@@ -1,18 +1,30 @@
 -- The format of oracle/src/topic/format.rs: what a record asks for, what refuses it before the cache is asked, and a writer's digits.
 use mathlib.Core.Bool.{Bool, cond, _&&_}
-use mathlib.Core.List.{List, [], _∷_, _++_}
-use Prim.Native.Nat.{ℕ, zero, suc, _+_, _/_, _%_}
+use mathlib.Core.List.{List, [], _∷_}
+use Prim.Native.Nat.{ℕ, _+_, _/_, _%_}
 use lib.Dec.{eqb, ltb, leb}
 use lib.ListN.{length}
-use Rattle.model.specs.Topic.{seqFits}
-use Rattle.records.specs.Format.{byteAt, numberAt}
+use Rattle.sampleinfo.specs.Formed.{seqFits}
+use Rattle.records.specs.Format.{byteAt, numberAt, bytesAt}
 use Rattle.changes.specs.declared.CacheChange.{CacheChange}
 use Rattle.dds_cache.specs.declared.History.{History}
 use Rattle.dds_cache.specs.declared.History.the-variants.{KeepAll, KeepLast}
 use Rattle.topic_records.specs.declared.Op.{Op}
 use Rattle.topic_records.specs.declared.Op.the-variants as op
 
--- ---- records
+-- ---- records: the size of each, operation byte and fields
+
+abbrev pub limitsSize : ℕ
+limitsSize = 11
+
+abbrev pub addSize : ℕ
+addSize = 41
+
+abbrev pub removeSize : ℕ
+removeSize = 9
+
+abbrev pub rangeSize : ℕ
+rangeSize = 17
 
 -- a wrong length is malformed
 unfoldable pub sizedOp : ℕ → ℕ → Op → Op
@@ -24,11 +36,14 @@ tagsFit rec = leb (byteAt rec 1) 2 && leb (byteAt rec 6) 1
 
 -- a byte that names nothing is malformed too
 unfoldable pub limitsOp : List ℕ → Op → Op
-limitsOp rec o = cond (tagsFit rec) (sizedOp 11 (length rec) o) op.Malformed
+limitsOp rec o = cond (tagsFit rec) (sizedOp limitsSize (length rec) o) op.Malformed
+
+abbrev pub sequenceIn : List ℕ → ℕ
+sequenceIn rec = numberAt 8 rec 17
 
 -- "sequence number out of range" is refused with 1, as a malformed record is
 unfoldable pub addOp : List ℕ → Op
-addOp rec = cond (seqFits (numberAt 8 rec 17)) (sizedOp 41 (length rec) op.Add) op.Malformed
+addOp rec = cond (seqFits (sequenceIn rec)) (sizedOp addSize (length rec) op.Add) op.Malformed
 
 -- "0 new and 1 update .. 2 add .. 3 remove before .. 4 range"
 unfoldable pub opAt : ℕ → List ℕ → Op
@@ -36,25 +51,18 @@ opAt o rec =
     cond (eqb o 0) (limitsOp rec op.New)
     (cond (eqb o 1) (limitsOp rec op.Update)
     (cond (eqb o 2) (addOp rec)
-    (cond (eqb o 3) (sizedOp 9 (length rec) op.RemoveBefore)
-    (cond (eqb o 4) (sizedOp 17 (length rec) op.Range)
+    (cond (eqb o 3) (sizedOp removeSize (length rec) op.RemoveBefore)
+    (cond (eqb o 4) (sizedOp rangeSize (length rec) op.Range)
     op.Malformed))))
 
 abbrev pub opIn : List ℕ → Op
 opIn rec = opAt (byteAt rec 0) rec
 
 -- "writer (16), sequence number (8), handle (4), payload length (4)"; the time behind them is read where the add is made
-unfoldable pub bytesIn : ℕ → List ℕ → List ℕ
-bytesIn zero rec = []
-bytesIn (suc n) rec = bytesIn n rec ++ (byteAt rec (1 + n) ∷ [])
-
-abbrev pub writerIn : List ℕ → List ℕ
-writerIn rec = bytesIn 16 rec
-
 abbrev pub changeIn : List ℕ → CacheChange
 changeIn rec = record {
-  «writer_guid» = writerIn rec;
-  «sequence_number» = numberAt 8 rec 17;
+  «writer_guid» = bytesAt 16 rec 1;
+  «sequence_number» = sequenceIn rec;
   handle = numberAt 4 rec 25;
   «payload_size» = numberAt 4 rec 29;
 }

@@ -9,14 +9,14 @@ use borrow.Author.Tests.{eq-eqb, ne-eqb, lt-leb, le-leb, lt-ltb, le-ltb}
 use lib.Dec.{leb}
 use lib.ListN.{length, take, set, getD, length-set}
 use lib.Seq.{take-all, take-suc, take-suc-set}
-use Rattle.model.specs.Topic.{seqFits}
-use Rattle.records.specs.Format.{byteAt, numberAt}
+use Rattle.sampleinfo.specs.Formed.{seqFits}
+use Rattle.records.specs.Format.{byteAt, numberAt, bytesAt}
 use Rattle.changes.specs.declared.CacheChange.{CacheChange}
 use Rattle.dds_cache.specs.declared.History.{History}
 use Rattle.dds_cache.specs.declared.History.the-variants.{KeepAll, KeepLast}
 use Rattle.topic_records.specs.declared.Op.{Op}
 use Rattle.topic_records.specs.declared.Op.the-variants as op
-use Rattle.topic_records.specs.Format.{sizedOp, tagsFit, limitsOp, addOp, opAt, bytesIn, changeIn, historyAsked, mostAsked, historyIn, mostIn, digitOf, hexText}
+use Rattle.topic_records.specs.Format.{limitsSize, addSize, removeSize, rangeSize, sizedOp, tagsFit, limitsOp, sequenceIn, addOp, opAt, changeIn, historyAsked, mostAsked, historyIn, mostIn, digitOf, hexText}
 
 -- ---- the operation
 
@@ -39,7 +39,7 @@ module _ (rec : List ℕ) (k : ℕ) (e : k ≡ byteAt rec 1) where
   tags-not h = rw (← e, lt-leb k 2 h)
 
 module _ (rec : List ℕ) (o : Op) (b : Bool) (e : b ≡ tagsFit rec) where
-  pub limits-fit : (r : Op) → b ≡ true → r ≡ sizedOp 11 (length rec) o → r ≡ limitsOp rec o
+  pub limits-fit : (r : Op) → b ≡ true → r ≡ sizedOp limitsSize (length rec) o → r ≡ limitsOp rec o
   unfolding limitsOp
   limits-fit r t h = rw (sym e ∙ t) h
 
@@ -47,8 +47,8 @@ module _ (rec : List ℕ) (o : Op) (b : Bool) (e : b ≡ tagsFit rec) where
   unfolding limitsOp
   limits-not t = rw (sym e ∙ t)
 
-module _ (rec : List ℕ) (n : ℕ) (b : Bool) (e : n ≡ numberAt 8 rec 17) (f : b ≡ seqFits n) where
-  pub add-fits : (r : Op) → b ≡ true → r ≡ sizedOp 41 (length rec) op.Add → r ≡ addOp rec
+module _ (rec : List ℕ) (n : ℕ) (b : Bool) (e : n ≡ sequenceIn rec) (f : b ≡ seqFits n) where
+  pub add-fits : (r : Op) → b ≡ true → r ≡ sizedOp addSize (length rec) op.Add → r ≡ addOp rec
   unfolding addOp
   add-fits r t h = rw (← e, sym f ∙ t) h
 
@@ -69,11 +69,11 @@ module _ (rec : List ℕ) (b : ℕ) (r : Op) (e : b ≡ byteAt rec 0) where
   unfolding opAt
   op-add k h = rw (sym e ∙ k) h
 
-  pub op-remove : b ≡ 3 → r ≡ sizedOp 9 (length rec) op.RemoveBefore → r ≡ opAt (byteAt rec 0) rec
+  pub op-remove : b ≡ 3 → r ≡ sizedOp removeSize (length rec) op.RemoveBefore → r ≡ opAt (byteAt rec 0) rec
   unfolding opAt
   op-remove k h = rw (sym e ∙ k) h
 
-  pub op-range : b ≡ 4 → r ≡ sizedOp 17 (length rec) op.Range → r ≡ opAt (byteAt rec 0) rec
+  pub op-range : b ≡ 4 → r ≡ sizedOp rangeSize (length rec) op.Range → r ≡ opAt (byteAt rec 0) rec
   unfolding opAt
   op-range k h = rw (sym e ∙ k) h
 
@@ -109,18 +109,7 @@ history-is rec k d h e f g = rw (← e, ← f) g
 pub most-is : (rec : List ℕ) (g m r : ℕ) → g ≡ byteAt rec 6 → m ≡ numberAt 4 rec 7 → r ≡ mostAsked g m → r ≡ mostIn rec
 most-is rec g m r e f h = rw (← e, ← f) h
 
-pub writer-start : (rec : List ℕ) → [] ≡ bytesIn 0 rec
-unfolding bytesIn
-writer-start rec = refl
-
-pub writer-turn : (w rec : List ℕ) (i b : ℕ) → take i w ≡ bytesIn i rec → b ≡ byteAt rec (1 + i) → length w ≡ 16 → i < 16 → take (i + 1) (set w i b) ≡ bytesIn (i + 1) rec
-unfolding bytesIn
-writer-turn w rec i b e f n h = rw (add-one i, take-suc-set w i b (omega arith), e, f)
-
-pub writer-end : (w rec : List ℕ) (i : ℕ) → take i w ≡ bytesIn i rec → length w ≡ 16 → i ≤ 16 → 16 ≤ i → w ≡ bytesIn 16 rec
-writer-end w rec i e n h k = let z : i ≡ 16 = omega arith in sym (take-all 16 w (omega arith)) ∙ (rw z at e)
-
-pub change-is : (rec w : List ℕ) (s h p : ℕ) → w ≡ bytesIn 16 rec → s ≡ numberAt 8 rec 17 → h ≡ numberAt 4 rec 25 → p ≡ numberAt 4 rec 29
+pub change-is : (rec w : List ℕ) (s h p : ℕ) → w ≡ bytesAt 16 rec 1 → s ≡ sequenceIn rec → h ≡ numberAt 4 rec 25 → p ≡ numberAt 4 rec 29
     → _≡_ {A = CacheChange} (record { «writer_guid» = w; «sequence_number» = s; handle = h; «payload_size» = p }) (changeIn rec)
 change-is rec w s h p e f g k = rw (e, f, g, k)
 

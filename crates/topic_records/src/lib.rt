@@ -2,8 +2,7 @@
 // asks for; and a writer as digits.
 ghost use mathlib.Core.Path.{_≡_};
 ghost use Prim.Native.Nat.{_/_, _%_, _<_};
-ghost use Rattle.model.specs.Topic.{seqFits};
-ghost use Rattle.topic_records.specs.Format.{digitOf, hexText, writerIn, changeIn, historyAsked, mostAsked, historyIn, mostIn, tagsFit, opIn, sizedOp, limitsOp, addOp, tenUnless, refusalFor};
+ghost use Rattle.topic_records.specs.Format.{digitOf, hexText, changeIn, historyAsked, mostAsked, historyIn, mostIn, tagsFit, opIn, sizedOp, limitsOp, sequenceIn, addOp, tenUnless, refusalFor};
 use changes::CacheChange;
 use dds_cache::History;
 use dds_cache::KeepLimits;
@@ -17,6 +16,16 @@ pub enum Op {
     Range,
     Malformed,
 }
+
+// ---- the size of each record, operation byte and fields
+
+const LIMITS_SIZE: usize = 11;
+
+const ADD_SIZE: usize = 41;
+
+const REMOVE_SIZE: usize = 9;
+
+const RANGE_SIZE: usize = 17;
 
 // ---- the operation
 
@@ -44,26 +53,23 @@ fn with_limits(rec: &[u8], op: Op) -> Op
     ensures { λ r. ⌜ r ≡ limitsOp (now (rec .entry)) op ⌝ }
 {
     if tags_fit(rec) {
-        return sized(rec.len(), 11, op);
+        return sized(rec.len(), LIMITS_SIZE, op);
     }
     Op::Malformed
 }
 
-fn sequence_fits(sn: u64) -> bool
-    ensures { λ r. ⌜ r ≡ seqFits sn ⌝ }
+fn sequence_in(rec: &[u8]) -> u64
+    ensures { λ r. ⌜ r ≡ sequenceIn (now (rec .entry)) ⌝ }
 {
-    if sn == 0 {
-        return false;
-    }
-    sn < 9_223_372_036_854_775_808
+    records::u64_at(rec, 17)
 }
 
 // An add, if its sequence number is in range.
 fn with_sequence(rec: &[u8]) -> Op
     ensures { λ r. ⌜ r ≡ addOp (now (rec .entry)) ⌝ }
 {
-    if sequence_fits(records::u64_at(rec, 17)) {
-        return sized(rec.len(), 41, Op::Add);
+    if sampleinfo::sequence_number_fits(sequence_in(rec)) {
+        return sized(rec.len(), ADD_SIZE, Op::Add);
     }
     Op::Malformed
 }
@@ -77,8 +83,8 @@ pub fn op_of(rec: &[u8]) -> Op
         0 => with_limits(rec, Op::New),
         1 => with_limits(rec, Op::Update),
         2 => with_sequence(rec),
-        3 => sized(rec.len(), 9, Op::RemoveBefore),
-        4 => sized(rec.len(), 17, Op::Range),
+        3 => sized(rec.len(), REMOVE_SIZE, Op::RemoveBefore),
+        4 => sized(rec.len(), RANGE_SIZE, Op::Range),
         _ => Op::Malformed,
     }
 }
@@ -120,24 +126,12 @@ pub fn most_in(rec: &[u8]) -> u32
 
 // ---- an add
 
-fn writer_of(rec: &[u8]) -> [u8; 16]
-    ensures { λ r. ⌜ r ≡ writerIn (now (rec .entry)) ⌝ }
-{
-    let mut writer = [0u8; 16];
-    let mut i = 0;
-    while i < 16 {
-        writer[i] = records::byte(rec, 1, i);
-        i += 1;
-    }
-    writer
-}
-
 pub fn change_of(rec: &[u8]) -> CacheChange
     ensures { λ r. ⌜ r ≡ changeIn (now (rec .entry)) ⌝ }
 {
     CacheChange {
-        writer_guid: writer_of(rec),
-        sequence_number: records::u64_at(rec, 17),
+        writer_guid: records::writer_at(rec, 1),
+        sequence_number: sequence_in(rec),
         handle: records::u32_at(rec, 25),
         payload_size: records::u32_at(rec, 29),
     }

@@ -3,13 +3,13 @@ use lib.ListN.{length}
 use mathlib.Core.Path.{_≡_}
 use native.Mathlib.Omega.{arith}
 use Prim.Native.Nat.{_-_, _≤_}
-use Rattle.changes.specs.Places.{cleared}
+use Rattle.changes.specs.Places.{tableSize, cleared}
 use Rattle.changes.specs.WordLaws.{clear-start, clear-turn, clear-end}
 use Rattle.changes.proofs.clear.Statement.{statement}
 use Rattle.changes.proofs.clear.Tie as tie
 
 abbrev Inv-loop : tie.InvT-loop
-Inv-loop words₀ from to i₀ words i = (from ≤ i) × (i ≤ to) × (length words₀ ≡ 2304 → words ≡ cleared from i words₀)
+Inv-loop words₀ from to i₀ words i = (from ≤ i) × (i ≤ to) × (length words₀ ≡ tableSize → words ≡ cleared from i words₀)
 
 abbrev μ-loop : tie.MeasureT-loop
 μ-loop words₀ from to i₀ words i = to - i

@@ -3,13 +3,13 @@ use mathlib.Core.Path.{_≡_}
 use native.Mathlib.Omega.{arith}
 use lib.ListN.{length}
 use Prim.Native.Nat.{_-_, _≤_}
-use Rattle.changes.specs.Places.{movedDown}
+use Rattle.changes.specs.Places.{tableSize, movedDown}
 use Rattle.changes.specs.WordLaws.{moved-start, moved-turn, moved-end}
 use Rattle.changes.proofs.move_down.Statement.{statement}
 use Rattle.changes.proofs.move_down.Tie as tie
 
 abbrev Inv-loop : tie.InvT-loop
-Inv-loop words₀ by size i₀ words i = (i ≤ size) × (length words₀ ≡ 2304 → words ≡ movedDown by i words₀)
+Inv-loop words₀ by size i₀ words i = (i ≤ size) × (length words₀ ≡ tableSize → words ≡ movedDown by i words₀)
 
 abbrev μ-loop : tie.MeasureT-loop
 μ-loop words₀ by size i₀ words i = size - i

@@ -1,25 +1,16 @@
 use borrow.Author.Needs.{needs}
-use Rattle.datasample_cache.specs.AddingLaws.{decide-unfit, decide-kind, decide-made}
+use Rattle.datasample_cache.specs.AddingLaws.{decide-unfit, decide-fit}
 use Rattle.datasample_cache.proofs.decide.Statement.{statement}
 use Rattle.datasample_cache.proofs.decide.Tie as tie
 
-in-range-requires : tie.Need-in-range-requires
-in-range-requires c κs = search needs
-
-declined-requires : tie.Need-declined-requires
-declined-requires c κs = search needs
-
-returns : tie.Need-returns
-returns c = search (needs, decide-unfit, decide-kind, decide-made)
-
-of-requires : tie.Need-of-requires
-of-requires c κs = search needs
+arrived-requires : tie.Need-arrived-requires
+arrived-requires c κs = search needs
 
 enum-told : tie.Need-enum-told
 enum-told c = search needs
 
-declined-requires-2 : tie.Need-declined-requires-2
-declined-requires-2 c κs = search needs
+declined-requires : tie.Need-declined-requires
+declined-requires c κs = search needs
 
 enum-known-body : tie.Need-enum-known-body
 enum-known-body c = search needs
@@ -30,24 +21,21 @@ instance-state-requires c κs = search needs
 planned-requires : tie.Need-planned-requires
 planned-requires c κs = search needs
 
-returns-2 : tie.Need-returns-2
-returns-2 c = search (needs, decide-unfit, decide-kind, decide-made)
+returns : tie.Need-returns
+returns c = search (needs, decide-unfit)
 
-returns-3 : tie.Need-returns-3
-returns-3 c = search (needs, decide-unfit, decide-kind, decide-made)
+returns-2 : tie.Need-returns-2
+returns-2 c = search (needs, decide-fit)
 
 pub decide-spec : {M : Type 1} → statement M
 decide-spec =
     tie.close
     (tie.spec
-    in-range-requires
-    declined-requires
-    returns
-    of-requires
+    arrived-requires
     enum-told
-    declined-requires-2
+    declined-requires
     enum-known-body
     instance-state-requires
     planned-requires
-    returns-2
-    returns-3)
+    returns
+    returns-2)

@@ -2,7 +2,8 @@ use borrow.Author.Needs.{needs}
 use mathlib.Core.Path.{_≡_}
 use Prim.Native.Nat.{_-_, _*_, _≤_}
 use lib.ListN.{length}
-use Rattle.records.specs.Requests.{listCount, wordsIn}
+use Rattle.records.specs.Format.{listCount}
+use Rattle.records.specs.Words.{wordsIn}
 use Rattle.records.specs.PairLaws.{filled, filled-start, words-count, words-kept, words-turn, words-end}
 use Rattle.records.proofs.pairs_of.Statement.{statement}
 use Rattle.records.proofs.pairs_of.Tie as tie

@@ -3,8 +3,8 @@ use Rattle.records.specs.RequestLaws.{count-is}
 use Rattle.records.proofs.words.Statement.{statement}
 use Rattle.records.proofs.words.Tie as tie
 
-op-of-requires : tie.Need-op-of-requires
-op-of-requires c κs = search needs
+op-in-requires : tie.Need-op-in-requires
+op-in-requires c κs = search needs
 
 count-requires : tie.Need-count-requires
 count-requires c κs = search needs
@@ -19,4 +19,4 @@ returns : tie.Need-returns
 returns c = search (needs, count-is)
 
 pub words-spec : {M : Type 1} → statement M
-words-spec = tie.close (tie.spec op-of-requires count-requires cast-result mul-result returns)
+words-spec = tie.close (tie.spec op-in-requires count-requires cast-result mul-result returns)

@@ -3,11 +3,11 @@ use borrow.Author.Needs.{needs}
 use Rattle.topic_records.proofs.change_of.Statement.{statement}
 use Rattle.topic_records.proofs.change_of.Tie as tie
 
-writer-of-requires : tie.Need-writer-of-requires
-writer-of-requires c κs = search needs
+writer-at-requires : tie.Need-writer-at-requires
+writer-at-requires c κs = search needs
 
-u64-at-requires : tie.Need-u64-at-requires
-u64-at-requires c κs = search needs
+sequence-in-requires : tie.Need-sequence-in-requires
+sequence-in-requires c κs = search needs
 
 u32-at-requires : tie.Need-u32-at-requires
 u32-at-requires c κs = search needs
@@ -21,4 +21,4 @@ returns c = search (needs, change-is)
 pub change-of-spec : {M : Type 1} → statement M
 change-of-spec =
     tie.close
-    (tie.spec writer-of-requires u64-at-requires u32-at-requires u32-at-requires-2 returns)
+    (tie.spec writer-at-requires sequence-in-requires u32-at-requires u32-at-requires-2 returns)

@@ -3,11 +3,11 @@ use borrow.Author.Needs.{needs}
 use Rattle.topic_records.proofs.with_sequence.Statement.{statement}
 use Rattle.topic_records.proofs.with_sequence.Tie as tie
 
-u64-at-requires : tie.Need-u64-at-requires
-u64-at-requires c κs = search needs
+sequence-in-requires : tie.Need-sequence-in-requires
+sequence-in-requires c κs = search needs
 
-sequence-fits-requires : tie.Need-sequence-fits-requires
-sequence-fits-requires c κs = search needs
+sequence-number-fits-requires : tie.Need-sequence-number-fits-requires
+sequence-number-fits-requires c κs = search needs
 
 sized-requires : tie.Need-sized-requires
 sized-requires c κs = search needs
@@ -20,4 +20,4 @@ returns-2 c = search (needs, add-fits, add-not)
 
 pub with-sequence-spec : {M : Type 1} → statement M
 with-sequence-spec =
-    tie.close (tie.spec u64-at-requires sequence-fits-requires sized-requires returns returns-2)
+    tie.close (tie.spec sequence-in-requires sequence-number-fits-requires sized-requires returns returns-2)
