@@ -1,4 +1,4 @@
--- A part at the front of a buffer, and the length of a warm-up.
+-- The front of a list, and the length of a warm-up.
 use mathlib.Core.Path.{_≡_, sym}
 use mathlib.Core.List.{List}
 use Prim.Native.Nat.{ℕ, _≤_, _*_}
@@ -9,13 +9,9 @@ use lib.Seq.{length-take-le}
 use mir.Syntax.{w64}
 use mir.Val.{Fits}
 
--- as many as there are, and no more than were asked for
-pub record Most (n most r : ℕ) : Type 0 where
-  pub there : r ≤ most
-  pub asked : r ≤ n
-
-pub front-long : (l : List ℕ) (n k : ℕ) → Most n (length l) k → k ≡ length (take k l)
-front-long l n k h = sym (length-take-le k l (h .there))
+-- the front of a read's list, once it is filled
+pub front-long : (was l : List ℕ) (k : ℕ) → length l ≡ length was → length was ≡ 8 → k ≤ 8 → k ≡ length (take k l)
+front-long was l k e h m = sym (length-take-le k l (rw (e, h) m))
 
 -- the adds of a warm-up
 pub product-fits : (n d : ℕ) → n ≤ 32 → d ≤ 256 → Fits w64 (n * d)

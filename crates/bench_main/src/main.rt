@@ -1,44 +1,68 @@
 // The load of bench/SPEED-load.md over the proved cache. The set-up comes from standard input, so that no compiler can fold it in; the sums of what
 // the cache answered go to standard output.
+// Only `main` lends the sample table, and it decides nothing: a function over the table has a long machine-made derivation (tools/lent), one over the
+// driver's words has none.
+ghost use mathlib.Core.Path.{_≡_};
 ghost use Prim.Native.Nat.{_≤_, _<_};
-ghost use Rattle.bench_main.specs.LoadLaws.{Most};
+ghost use lib.ListN.{length};
+use datasample_access::ListOutcome;
 use datasample_access::Listed;
+use datasample_cache::AddOutcome;
 use datasample_cache::Added;
 use datasample_cache::Evicted;
 use datasample_cache::Reply;
+use datasample_cache::SetUpOutcome;
 use std::num::wrapping_add_u64;
 
-// Where the driver's numbers stand in its words.
+// How much there can be of each thing.
+struct Most {}
+
+impl Most {
+    const ROWS: usize = index::Cache::ROWS;
+
+    const DEPTH: usize = index::Cache::SLOTS;
+    // the pairs of a read, and the words of their list
+    const PAIRS: usize = 4;
+
+    const LIST: usize = 2 * Most::PAIRS;
+    // the words of the index
+    const INDEX: usize = index::Cache::OWNERS + index::Cache::SLOTS;
+}
+
+// Where the driver's numbers stand in its words. In front of them the cache puts the infos of a read: it is lent the words as a slice, whose length
+// `main` has to know, so each function that is lent them ensures that it keeps it.
 struct Place {}
 
 impl Place {
     // the number drawn last
-    const X: usize = 0;
-    // instances, depth, and how many adds the warm-up has
-    const N: usize = 1;
+    const X: usize = Most::PAIRS * infos::InfoWords::WORDS;
+    // instances, depth, and how many operations follow the warm-up
+    const N: usize = Place::X + 1;
 
-    const D: usize = 2;
+    const D: usize = Place::X + 2;
 
-    const WARM: usize = 3;
+    const OPERATIONS: usize = Place::X + 3;
 
-    const TIME: usize = 4;
-
-    const SEQUENCE: usize = 5;
-    // 1 once the cache refused
-    const REFUSED: usize = 6;
+    const TIME: usize = Place::X + 4;
+    // also how many adds there were
+    const SEQUENCE: usize = Place::X + 5;
     // the two sums, two words each
-    const SUM: usize = 8;
+    const SUM: usize = Place::X + 6;
 
-    const OWN: usize = 10;
+    const OWN: usize = Place::X + 8;
     // how many adds each instance had
-    const COUNTS: usize = 32;
-    // the last keys of each instance, room for 256 each
-    const RECENT: usize = 64;
+    const COUNTS: usize = Place::X + 10;
+    // the last keys of each instance
+    const RECENT: usize = Place::COUNTS + Most::ROWS;
+
+    const END: usize = Place::RECENT + Most::ROWS * Most::DEPTH;
 }
 
 // ---- numbers
 
-fn draw(w: &mut [u64; 8256]) -> u64 {
+fn draw(w: &mut [u64; Place::END]) -> u64
+    ensures { λ r. ⌜ length (now (w .exit)) ≡ length (now (w .entry)) ⌝ }
+{
     let x = ((w[Place::X] % 4294967296) * 48271) % 2147483647;
     w[Place::X] = x;
     x
@@ -64,7 +88,9 @@ impl Sum {
     }
 }
 
-fn put_key(w: &mut [u64; 8256], key: u64) {
+fn put_key(w: &mut [u64; Place::END], key: u64)
+    ensures { λ r. ⌜ length (now (w .exit)) ≡ length (now (w .entry)) ⌝ }
+{
     let s = Sum {
         a: w[Place::SUM],
         b: w[Place::SUM + 1],
@@ -74,7 +100,9 @@ fn put_key(w: &mut [u64; 8256], key: u64) {
     w[Place::SUM + 1] = r.b;
 }
 
-fn put_place(w: &mut [u64; 8256], slot: u64, evicted: u64) {
+fn put_place(w: &mut [u64; Place::END], slot: u64, evicted: u64)
+    ensures { λ r. ⌜ length (now (w .exit)) ≡ length (now (w .entry)) ⌝ }
+{
     let s = Sum {
         a: w[Place::OWN],
         b: w[Place::OWN + 1],
@@ -86,43 +114,62 @@ fn put_place(w: &mut [u64; 8256], slot: u64, evicted: u64) {
 
 // ---- the keys that an instance's last adds were answered
 
-fn recent(w: &[u64; 8256], i: u64, j: u64) -> u64 {
-    if 32 <= i {
+fn recent(w: &[u64; Place::END], i: u64, j: u64) -> u64 {
+    let row = i as usize;
+    let at = j as usize;
+    if Most::ROWS <= row {
         return 0;
     }
-    if 256 <= j {
+    if Most::DEPTH <= at {
         return 0;
     }
-    w[Place::RECENT + 256 * (i as usize) + (j as usize)]
+    w[Place::RECENT + Most::DEPTH * row + at]
 }
 
-fn put_recent(w: &mut [u64; 8256], i: u64, key: u64) {
+fn put_recent(w: &mut [u64; Place::END], i: u64, key: u64)
+    ensures { λ r. ⌜ length (now (w .exit)) ≡ length (now (w .entry)) ⌝ }
+{
     let d = w[Place::D];
     if d == 0 {
         return;
     }
-    if 32 <= i {
-        return;
-    }
     let row = i as usize;
-    let count = w[Place::COUNTS + row];
-    let j = count % d;
-    if 256 <= j {
+    if Most::ROWS <= row {
         return;
     }
-    w[Place::RECENT + 256 * row + (j as usize)] = key;
+    let count = w[Place::COUNTS + row];
+    let at = (count % d) as usize;
+    if Most::DEPTH <= at {
+        return;
+    }
+    w[Place::RECENT + Most::DEPTH * row + at] = key;
     w[Place::COUNTS + row] = wrapping_add_u64(count, 1);
 }
 
 // ---- an add
 
 struct Arrival {
+    row: u64,
     instance: u64,
     writer: [u8; 16],
     sequence: u64,
     time: u64,
     kind: u8,
     handle: u32,
+}
+
+// The instance that is added to: in the warm-up, where every step is an add, each in turn; then a drawn one.
+fn target(w: &mut [u64; Place::END], left: u64) -> u64
+    ensures { λ r. ⌜ length (now (w .exit)) ≡ length (now (w .entry)) ⌝ }
+{
+    let n = w[Place::N];
+    if n == 0 {
+        return 0;
+    }
+    if w[Place::OPERATIONS] < left {
+        return w[Place::SEQUENCE] % n;
+    }
+    draw(w) % n
 }
 
 fn kind_of(r: u64) -> u8 {
@@ -132,7 +179,9 @@ fn kind_of(r: u64) -> u8 {
     1
 }
 
-fn next_arrival(w: &mut [u64; 8256], i: u64) -> Arrival {
+fn arrival_to(w: &mut [u64; Place::END], i: u64) -> Arrival
+    ensures { λ r. ⌜ length (now (w .exit)) ≡ length (now (w .entry)) ⌝ }
+{
     let r = draw(w);
     let time = wrapping_add_u64(w[Place::TIME], r % 4);
     let sequence = wrapping_add_u64(w[Place::SEQUENCE], 1);
@@ -140,6 +189,7 @@ fn next_arrival(w: &mut [u64; 8256], i: u64) -> Arrival {
     w[Place::SEQUENCE] = sequence;
     let writer = [(i % 256) as u8; 16];
     Arrival {
+        row: i,
         instance: name(i),
         writer: writer,
         sequence: sequence,
@@ -149,12 +199,11 @@ fn next_arrival(w: &mut [u64; 8256], i: u64) -> Arrival {
     }
 }
 
-fn refuse(w: &mut [u64; 8256]) {
-    w[Place::REFUSED] = 1;
-}
-
-fn is_refused(w: &[u64; 8256]) -> bool {
-    w[Place::REFUSED] != 0
+fn next_arrival(w: &mut [u64; Place::END], left: u64) -> Arrival
+    ensures { λ r. ⌜ length (now (w .exit)) ≡ length (now (w .entry)) ⌝ }
+{
+    let i = target(w, left);
+    arrival_to(w, i)
 }
 
 fn evicted_number(evicted: Evicted) -> u64 {
@@ -164,57 +213,23 @@ fn evicted_number(evicted: Evicted) -> u64 {
     }
 }
 
-fn note_added(w: &mut [u64; 8256], i: u64, answer: Added) {
-    match answer {
-        Added::Refused(_) => refuse(w),
-        Added::Added { key, slot, evicted } => {
-            put_recent(w, i, key);
-            put_key(w, key);
-            put_place(w, slot as u64, evicted_number(evicted));
-        }
-    }
-}
-
-fn add_step(
-    h: index::Cache,
-    ws: &mut [u64; 928],
-    t: &mut [sampleinfo::Sample],
-    w: &mut [u64; 8256],
-    i: u64,
-) -> index::Cache {
-    let a = next_arrival(w, i);
-    let writer = a.writer;
-    let r = datasample_cache::add(
-        h,
-        ws,
-        t,
-        a.instance,
-        writer,
-        a.sequence,
-        a.time,
-        a.kind,
-        a.handle,
-    );
-    let answer = r.answer;
-    note_added(w, i, answer);
-    r.head
-}
-
 // ---- a read
 
-fn put_pair(w: &[u64; 8256], list: &mut [u64], p: u64, i: u64, j: u64) {
-    if 4 <= p {
-        return;
-    }
+fn put_pair(w: &[u64; Place::END], list: &mut [u64; Most::LIST], p: u64, i: u64, j: u64)
+    requires { ⌜ p < 4 ⌝ }
+    ensures { λ r. ⌜ length (now (list .exit)) ≡ length (now (list .entry)) ⌝ }
+{
     let at = (2 * p) as usize;
-    if at + 1 < list.len() {
-        list[at] = recent(w, i, j);
-        list[at + 1] = name(i);
-    }
+    list[at] = recent(w, i, j);
+    list[at + 1] = name(i);
 }
 
 // The list of a read, at the front of the lent words; the answer is how many words it has.
-fn put_list(w: &mut [u64; 8256], list: &mut [u64]) -> usize {
+fn put_list(w: &mut [u64; Place::END], list: &mut [u64; Most::LIST]) -> usize
+    ensures { λ r. ⌜ r ≤ 8 ⌝ }
+    ensures { λ r. ⌜ length (now (w .exit)) ≡ length (now (w .entry)) ⌝ }
+    ensures { λ r. ⌜ length (now (list .exit)) ≡ length (now (list .entry)) ⌝ }
+{
     let r = draw(w);
     let n = w[Place::N];
     let d = w[Place::D];
@@ -238,7 +253,7 @@ fn put_list(w: &mut [u64; 8256], list: &mut [u64]) -> usize {
 }
 
 fn at_most(n: usize, most: usize) -> usize
-    ensures { λ r. ⌜ Most n most r ⌝ }
+    ensures { λ r. ⌜ r ≤ most ⌝ }
 {
     if n < most {
         return n;
@@ -251,133 +266,144 @@ fn lifted(rank: u64) -> u64 {
 }
 
 // Four words of an info, as they stand.
-fn put_four(s: Sum, out: &[u64; 108], at: usize) -> Sum
+fn put_four(s: Sum, w: &[u64; Place::END], at: usize) -> Sum
     requires { ⌜ at < 105 ⌝ }
 {
-    s.put(out[at])
-        .put(out[at + 1])
-        .put(out[at + 2])
-        .put(out[at + 3])
+    s.put(w[at]).put(w[at + 1]).put(w[at + 2]).put(w[at + 3])
 }
 
 // Two ranks, the sequence number and the writer's first byte.
-fn put_ranks(s: Sum, out: &[u64; 108], at: usize) -> Sum
+fn put_ranks(s: Sum, w: &[u64; Place::END], at: usize) -> Sum
     requires { ⌜ at < 105 ⌝ }
 {
-    s.put(lifted(out[at]))
-        .put(lifted(out[at + 1]))
-        .put(out[at + 2])
-        .put(out[at + 3])
+    s.put(lifted(w[at]))
+        .put(lifted(w[at + 1]))
+        .put(w[at + 2])
+        .put(w[at + 3])
 }
 
 // The info at place p: its words stand in the order in which they are put.
-fn put_info(s: Sum, out: &[u64; 108], p: usize) -> Sum
+fn put_info(s: Sum, w: &[u64; Place::END], p: usize) -> Sum
     requires { ⌜ p < 4 ⌝ }
 {
     let at = infos::InfoWords::WORDS * p;
-    let states = put_four(s, out, at);
-    let counts = put_four(states, out, at + 4);
-    put_ranks(counts, out, at + infos::InfoWords::GENERATION_RANK)
+    let states = put_four(s, w, at);
+    let counts = put_four(states, w, at + 4);
+    put_ranks(counts, w, at + infos::InfoWords::GENERATION_RANK)
 }
 
-fn put_infos(w: &mut [u64; 8256], out: &[u64; 108], n: usize) {
-    let m = at_most(n, 4);
+fn put_infos(w: &mut [u64; Place::END], n: usize)
+    ensures { λ r. ⌜ length (now (w .exit)) ≡ length (now (w .entry)) ⌝ }
+{
+    let m = at_most(n, Most::PAIRS);
     let mut s = Sum {
         a: w[Place::SUM],
         b: w[Place::SUM + 1],
     };
     let mut p = 0;
     while p < m {
-        s = put_info(s, out, p);
+        s = put_info(s, w, p);
         p += 1;
     }
     w[Place::SUM] = s.a;
     w[Place::SUM + 1] = s.b;
 }
 
-fn note_read(w: &mut [u64; 8256], out: &[u64; 108], answer: Listed) {
-    match answer {
-        Listed::Refused(_) => refuse(w),
-        Listed::Infos(n) => put_infos(w, out, n),
+// ---- the end
+
+fn print_sum(title: &[u8], a: u64, b: u64) {
+    io::write_all(1, title);
+    io::print_decimal(1, a);
+    io::write_all(1, b" ");
+    io::print_decimal(1, b);
+    io::write_all(1, b"\n");
+}
+
+fn print_sums(w: &[u64; Place::END]) {
+    print_sum(b"sum ", w[Place::SUM], w[Place::SUM + 1]);
+    print_sum(b"own ", w[Place::OWN], w[Place::OWN + 1]);
+}
+
+// ---- a step
+
+// The header of the cache, and what the next step is.
+struct Next {
+    head: index::Cache,
+    // how many steps are left, the next one included
+    left: u64,
+    read: bool,
+}
+
+// "A program that meets a refusal prints `refused` and stops."
+fn refused(head: index::Cache) -> Next
+    ensures { λ r. ⌜ r .left ≡ 0 ⌝ }
+{
+    io::write_all(1, b"refused\n");
+    Next {
+        head: head,
+        left: 0,
+        read: false,
     }
 }
-
-fn read_step(
-    h: index::Cache,
-    ws: &mut [u64; 928],
-    t: &mut [sampleinfo::Sample],
-    w: &mut [u64; 8256],
-    list: &mut [u64],
-    out: &mut [u64; 108],
-) -> index::Cache {
-    let words = put_list(w, list);
-    let n = at_most(words, list.len());
-    let r = datasample_access::read_by_keys(h, ws, t, &list[..n], out);
-    let answer = r.answer;
-    note_read(w, out, answer);
-    r.head
-}
-
-// ---- the run
 
 // Past the warm-up every fifth step is a read.
-fn is_read(w: &[u64; 8256], k: u64) -> bool {
-    let warm = w[Place::WARM];
-    if k < warm {
+fn is_read(w: &[u64; Place::END], left: u64) -> bool {
+    let operations = w[Place::OPERATIONS];
+    if operations < left {
         return false;
     }
-    (k - warm) % 5 == 4
+    (operations - left) % 5 == 4
 }
 
-// The instance that step k adds to: in the warm-up each in turn, then a drawn one.
-fn target(w: &mut [u64; 8256], k: u64) -> u64 {
-    let n = w[Place::N];
-    if n == 0 {
-        return 0;
+// What follows with so many steps left; the sums are printed once there is none.
+fn next_step(w: &[u64; Place::END], head: index::Cache, left: u64) -> Next
+    ensures { λ r. ⌜ r .left ≡ left ⌝ }
+{
+    if left == 0 {
+        print_sums(w);
     }
-    if k < w[Place::WARM] {
-        return k % n;
+    Next {
+        head: head,
+        left: left,
+        read: is_read(w, left),
     }
-    draw(w) % n
 }
 
-fn step(
-    h: index::Cache,
-    ws: &mut [u64; 928],
-    t: &mut [sampleinfo::Sample],
-    w: &mut [u64; 8256],
-    list: &mut [u64],
-    out: &mut [u64; 108],
-    k: u64,
-) -> index::Cache {
-    if is_read(w, k) {
-        return read_step(h, ws, t, w, list, out);
-    }
-    let i = target(w, k);
-    add_step(h, ws, t, w, i)
-}
-
-fn run(
-    h: index::Cache,
-    ws: &mut [u64; 928],
-    t: &mut [sampleinfo::Sample],
-    w: &mut [u64; 8256],
-    list: &mut [u64],
-    out: &mut [u64; 108],
-    steps: u64,
-) {
-    let mut head = h;
-    let mut k: u64 = 0;
-    while k < steps {
-        head = step(head, ws, t, w, list, out, k);
-        if is_refused(w) {
-            return;
+// The add to this instance was answered.
+fn after_add(w: &mut [u64; Place::END], left: u64, row: u64, r: AddOutcome) -> Next
+    requires { ⌜ 0 < left ⌝ }
+    ensures { λ r. ⌜ r .left < left ⌝ }
+    ensures { λ r. ⌜ length (now (w .exit)) ≡ length (now (w .entry)) ⌝ }
+{
+    let answer = r.answer;
+    match answer {
+        Added::Refused(_) => refused(r.head),
+        Added::Added { key, slot, evicted } => {
+            put_recent(w, row, key);
+            put_key(w, key);
+            put_place(w, slot as u64, evicted_number(evicted));
+            next_step(w, r.head, left - 1)
         }
-        k += 1;
     }
 }
 
-// ---- input and output
+// The infos stand in front of the words.
+fn after_read(w: &mut [u64; Place::END], left: u64, r: ListOutcome) -> Next
+    requires { ⌜ 0 < left ⌝ }
+    ensures { λ r. ⌜ r .left < left ⌝ }
+    ensures { λ r. ⌜ length (now (w .exit)) ≡ length (now (w .entry)) ⌝ }
+{
+    let answer = r.answer;
+    match answer {
+        Listed::Refused(_) => refused(r.head),
+        Listed::Infos(n) => {
+            put_infos(w, n);
+            next_step(w, r.head, left - 1)
+        }
+    }
+}
+
+// ---- the start
 
 struct Load {
     mode: u8,
@@ -400,6 +426,12 @@ fn load_of(input: &[u8]) -> Load {
     }
 }
 
+fn read_load() -> Load {
+    let mut input = [0u8; 19];
+    io::read_full(0, &mut input);
+    load_of(&input)
+}
+
 // The depth of the driver's ring.
 fn depth_of(keep: u32) -> u64 {
     if keep == 0 {
@@ -411,50 +443,33 @@ fn depth_of(keep: u32) -> u64 {
 fn warm_up(n: u64, d: u64) -> u64
     ensures { λ r. ⌜ r ≤ 8192 ⌝ }
 {
-    if 32 < n {
+    if (Most::ROWS as u64) < n {
         return 0;
     }
-    if 256 < d {
+    if (Most::DEPTH as u64) < d {
         return 0;
     }
     n * d
 }
 
-// The driver's numbers before the first step; the answer is how many steps there are.
-fn begin(w: &mut [u64; 8256], load: Load, answer: Reply) -> u64 {
+// The driver's numbers before the first step, and that step.
+fn begin(w: &mut [u64; Place::END], load: Load, r: SetUpOutcome) -> Next
+    ensures { λ r. ⌜ length (now (w .exit)) ≡ length (now (w .entry)) ⌝ }
+{
+    let answer = r.answer;
     match answer {
-        Reply::Refused(_) => {
-            refuse(w);
-            0
-        }
+        Reply::Refused(_) => refused(r.head),
         Reply::Ok => {
             let n = load.instances as u64;
             let d = depth_of(load.depth);
-            let warm = warm_up(n, d);
+            let operations = load.operations as u64;
             w[Place::X] = load.seed as u64;
             w[Place::N] = n;
             w[Place::D] = d;
-            w[Place::WARM] = warm;
-            warm + (load.operations as u64)
+            w[Place::OPERATIONS] = operations;
+            next_step(w, r.head, warm_up(n, d) + operations)
         }
     }
-}
-
-fn print_sum(title: &[u8], a: u64, b: u64) {
-    io::write_all(1, title);
-    io::print_decimal(1, a);
-    io::write_all(1, b" ");
-    io::print_decimal(1, b);
-    io::write_all(1, b"\n");
-}
-
-fn finish(w: &[u64; 8256]) {
-    if is_refused(w) {
-        io::write_all(1, b"refused\n");
-        return;
-    }
-    print_sum(b"sum ", w[Place::SUM], w[Place::SUM + 1]);
-    print_sum(b"own ", w[Place::OWN], w[Place::OWN + 1]);
 }
 
 // Before the set-up.
@@ -464,7 +479,7 @@ fn no_cache() -> index::Cache {
         room: 0,
         held: 0,
         last: keys::Last::Never,
-        newest: 256,
+        newest: index::Cache::SLOTS,
         free: slots::Free::all(),
     }
 }
@@ -474,16 +489,13 @@ fn no_sample() -> sampleinfo::Sample {
 }
 
 fn main() {
-    let mut input = [0u8; 19];
-    io::read_full(0, &mut input);
-    let load = load_of(&input);
+    let load = read_load();
     let empty = no_sample();
-    let mut t = [empty; 256];
-    let mut ws = [0u64; 928];
-    let mut w = [0u64; 8256];
-    let mut list = [0u64; 8];
-    let mut out = [0u64; 108];
-    let r = datasample_cache::set_up(
+    let mut t = [empty; index::Cache::SLOTS];
+    let mut ws = [0u64; Most::INDEX];
+    let mut w = [0u64; Place::END];
+    let mut list = [0u64; Most::LIST];
+    let set = datasample_cache::set_up(
         no_cache(),
         &mut ws,
         &mut t,
@@ -491,9 +503,27 @@ fn main() {
         load.keep,
         load.instances,
     );
-    let answer = r.answer;
-    let head = r.head;
-    let steps = begin(&mut w, load, answer);
-    run(head, &mut ws, &mut t, &mut w, &mut list, &mut out, steps);
-    finish(&w);
+    let mut next = begin(&mut w, load, set);
+    while 0 < next.left {
+        if next.read {
+            let n = put_list(&mut w, &mut list);
+            let r = datasample_access::read_by_keys(next.head, &mut ws, &mut t, &list[..n], &mut w);
+            next = after_read(&mut w, next.left, r);
+        } else {
+            let a = next_arrival(&mut w, next.left);
+            let writer = a.writer;
+            let r = datasample_cache::add(
+                next.head,
+                &mut ws,
+                &mut t,
+                a.instance,
+                writer,
+                a.sequence,
+                a.time,
+                a.kind,
+                a.handle,
+            );
+            next = after_add(&mut w, next.left, a.row, r);
+        }
+    }
 }

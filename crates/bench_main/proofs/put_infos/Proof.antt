@@ -4,25 +4,25 @@ use Rattle.bench_main.proofs.put_infos.Statement.{statement}
 use Rattle.bench_main.proofs.put_infos.Tie as tie
 
 abbrev Inv-loop : tie.InvT-loop
-Inv-loop w out n m s₀ p₀ s p = (p ≤ m) × (m ≤ 4)
+Inv-loop w n m s₀ p₀ s p = (p ≤ m) × (m ≤ 4)
 
 abbrev μ-loop : tie.MeasureT-loop
-μ-loop w out n m s₀ p₀ s p = m - p
+μ-loop w n m s₀ p₀ s p = m - p
 
 at-most-requires : tie.Need-at-most-requires Inv-loop μ-loop
 at-most-requires c κs = search needs
 
-element-copy-out-t9 : tie.Need-element-copy-out-t9 Inv-loop μ-loop
-element-copy-out-t9 c = search needs
+element-copy-out-t8 : tie.Need-element-copy-out-t8 Inv-loop μ-loop
+element-copy-out-t8 c = search needs
 
-add-t10 : tie.Need-add-t10 Inv-loop μ-loop
-add-t10 c = search needs
+add-t9 : tie.Need-add-t9 Inv-loop μ-loop
+add-t9 c = search needs
 
-mul-t11 : tie.Need-mul-t11 Inv-loop μ-loop
-mul-t11 c = search needs
+mul-t10 : tie.Need-mul-t10 Inv-loop μ-loop
+mul-t10 c = search needs
 
-element-copy-out-t14 : tie.Need-element-copy-out-t14 Inv-loop μ-loop
-element-copy-out-t14 c = search needs
+element-copy-out-t13 : tie.Need-element-copy-out-t13 Inv-loop μ-loop
+element-copy-out-t13 c = search needs
 
 loop-holds : tie.Need-loop-holds Inv-loop μ-loop
 loop-holds c = search needs
@@ -61,10 +61,10 @@ put-infos-spec =
     Inv-loop
     μ-loop
     at-most-requires
-    element-copy-out-t9
-    add-t10
-    mul-t11
-    element-copy-out-t14
+    element-copy-out-t8
+    add-t9
+    mul-t10
+    element-copy-out-t13
     loop-holds
     put-info-requires
     add-p

@@ -71,9 +71,6 @@ loop-again c = search needs
 mul-result : tie.Need-mul-result Inv-loop μ-loop
 mul-result c = search needs
 
-same-length : tie.Need-same-length Inv-loop μ-loop
-same-length c = search needs
-
 returns-3 : tie.Need-returns-3 Inv-loop μ-loop
 returns-3 c = search needs
 
@@ -103,5 +100,4 @@ put-list-spec =
     loop-less
     loop-again
     mul-result
-    same-length
     returns-3)

@@ -1,4 +1,0 @@
-pub mod add_step
-pub mod read_step
-pub mod run
-pub mod step
