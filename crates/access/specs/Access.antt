@@ -22,9 +22,10 @@ use Rattle.index.specs.Memory.{Tied}
 use Rattle.index.specs.declared.Cache.{Cache}
 use Rattle.change.specs.Change.{freedAt}
 use Rattle.refine.specs.Lists.{slotsNamed, viewedRows}
-use Rattle.infos.specs.Infos.{infoFrom}
+use Rattle.infos.specs.Infos.{infoFrom, ranksFrom}
 use Rattle.access.specs.declared.FirstBad.{FirstBad}
 use Rattle.access.specs.declared.FirstBad.the-variants as code
+use Rattle.infos.specs.declared.Ranking.{Ranking}
 
 -- the slot at a place, 256 past the last
 abbrev pub slotAt : List ℕ → ℕ → ℕ
@@ -102,9 +103,10 @@ unfolding noted
 notedAll ws t seen [] = seen
 notedAll ws t seen (k ∷ ks) = notedAll ws t (noted seen (getD (ownersIn ws) k 0) (accessedAt (totalOf (getD t k emptySample)))) ks
 
-unfoldable pub infosBy : List ℕ → List Sample → NotAliveGenerationCounts → NotAliveGenerationCounts → List ℕ → List Info
-infosBy ws t mrs mrsic [] = []
-infosBy ws t mrs mrsic (k ∷ ks) = infoFrom (getD t k emptySample) (metaAt (metasIn ws) (getD (ownersIn ws) k 0)) (length ks) mrs mrsic ∷ infosBy ws t mrs mrsic ks
+unfoldable pub infosBy : List ℕ → List Sample → Ranking → List ℕ → List Info
+infosBy ws t r [] = []
+infosBy ws t r (k ∷ ks) =
+    infoFrom (getD t k emptySample) (metaAt (metasIn ws) (getD (ownersIn ws) k 0)) (ranksFrom r (length ks) (getD t k emptySample .«generation_counts»)) ∷ infosBy ws t r ks
 
 -- ---- what is left
 

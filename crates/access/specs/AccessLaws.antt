@@ -16,7 +16,8 @@ use Rattle.sampleinfo.specs.declared.NotAliveGenerationCounts.{NotAliveGenerati
 use Rattle.sampleinfo.specs.declared.InstanceMetaData.{InstanceMetaData}
 use Rattle.sampleinfo.specs.declared.Sample.{Sample}
 use Rattle.sampleinfo.specs.declared.Info.{Info}
-use Rattle.model.specs.Pairs.{Pair, firstBad}
+use Rattle.model.specs.Pairs.{Pair, firstBad, repeats}
+use Rattle.sampleinfo.specs.declared.Ranks.{Ranks}
 use Rattle.pairs.specs.Flat.{pairsOf, pairAt, wholePairs}
 use Rattle.pairs.specs.FlatLaws.{length-pairs, noPair, pair-at}
 use Rattle.pairs.specs.Repeat.{firstRepeat, firstDead, badBy}
@@ -195,10 +196,10 @@ pub note-past : (seen : List ℕ) (row a : ℕ) → 32 ≤ row → seen ≡ note
 unfolding noted
 note-past seen row a h = rw (le-ltb row 32 h)
 
-pub show-info : (l m : List ℕ) (p : ℕ) (x : Info) (s : Sample) (i : InstanceMetaData) (row follow slot : ℕ) (mrs mrsic : NotAliveGenerationCounts) (ws : List ℕ) → m ≡ putInfo l p x
-    → x ≡ infoFrom s i follow mrs mrsic → i ≡ metaAt (metasIn ws) row → row ≡ getD (ownersIn ws) slot 0
-    → m ≡ putInfo l p (infoFrom s (metaAt (metasIn ws) (getD (ownersIn ws) slot 0)) follow mrs mrsic)
-show-info l m p x s i row follow slot mrs mrsic ws e f g h = e ∙ ap (putInfo l p) (f ∙ ap (λ (y : InstanceMetaData). infoFrom s y follow mrs mrsic) (g ∙ ap (metaAt (metasIn ws)) h))
+pub show-info : (l m : List ℕ) (p : ℕ) (x : Info) (s : Sample) (i : InstanceMetaData) (r ranks : Ranks) (row slot : ℕ) (ws : List ℕ) → m ≡ putInfo l p x
+    → x ≡ infoFrom s i r → r ≡ ranks → i ≡ metaAt (metasIn ws) row → row ≡ getD (ownersIn ws) slot 0
+    → m ≡ putInfo l p (infoFrom s (metaAt (metasIn ws) (getD (ownersIn ws) slot 0)) ranks)
+show-info l m p x s i r ranks row slot ws e f d g h = e ∙ ap (putInfo l p) (f ∙ ap (infoFrom s i) d ∙ ap (λ (y : InstanceMetaData). infoFrom s y ranks) (g ∙ ap (metaAt (metasIn ws)) h))
 
 pub show-noted : (seen m : List ℕ) (row slot a : ℕ) (s : Sample) (ws : List ℕ) → m ≡ noted seen row a → a ≡ accessedAt (totalOf s) → row ≡ getD (ownersIn ws) slot 0
     → m ≡ noted seen (getD (ownersIn ws) slot 0) (accessedAt (totalOf s))

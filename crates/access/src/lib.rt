@@ -9,7 +9,7 @@ ghost use Rattle.pairs.specs.Repeat.{badBy};
 ghost use Rattle.store.specs.Store.{Store};
 ghost use Rattle.index.specs.Words.{metasIn, ownersIn, metaAt};
 ghost use Rattle.index.specs.Memory.{Tied, Held};
-ghost use Rattle.infos.specs.Infos.{infoFrom};
+ghost use Rattle.infos.specs.Infos.{ranksFrom, infoFrom};
 ghost use Rattle.infos.specs.Words.{putInfo};
 ghost use Rattle.access.specs.Access.{slotAt, run, Judges, Found, numberOf, badOf, noted, lastCounts, freedEach, viewedWord, viewedBy, settled};
 use index::Cache;
@@ -128,29 +128,25 @@ fn note(seen: &mut [u64; 32], row: usize, accessed: u64)
     }
 }
 
-// The info of a slot's sample goes to place p; what the list showed of its instance is noted.
+// The info of a slot's sample goes to place p, which so many follow; what the list showed of its instance is noted.
 pub fn show(
     ws: &[u64; 928],
     slot: usize,
     s: Sample,
     p: usize,
     follow: usize,
-    mrs: NotAliveGenerationCounts,
-    mrsic: NotAliveGenerationCounts,
+    ranking: infos::Ranking,
     out: &mut [u64],
     seen: &mut [u64; 32],
 )
-    ensures { λ _. ⌜ now (out .exit) ≡ putInfo (now (out .entry)) p (infoFrom s (metaAt (metasIn (now (ws .entry))) (getD (ownersIn (now (ws .entry))) slot 0)) follow mrs mrsic) ⌝ }
+    ensures { λ _. ⌜ now (out .exit) ≡ putInfo (now (out .entry)) p (infoFrom s (metaAt (metasIn (now (ws .entry))) (getD (ownersIn (now (ws .entry))) slot 0)) (ranksFrom ranking follow (s .«generation_counts»))) ⌝ }
     ensures { λ _. ⌜ now (seen .exit) ≡ noted (now (seen .entry)) (getD (ownersIn (now (ws .entry))) slot 0) (accessedAt (totalOf s)) ⌝ }
 {
     let row = index::owner_at(ws, slot) as usize;
     let imd = index::meta_at(ws, row);
     let counts = s.generation_counts;
-    infos::put_info(
-        out,
-        p,
-        infos::make_sample_info(s, imd, follow as u64, mrs, mrsic),
-    );
+    let ranks = ranking.of_place(follow as u64, counts);
+    infos::put_info(out, p, infos::make_sample_info(s, imd, ranks));
     note(seen, row, counts.accessed());
 }
 

@@ -8,12 +8,15 @@ use native.Mathlib.Omega.{arith}
 use borrow.Author.Tests.{eqb-true}
 use lib.Dec.{eqb, leb}
 use lib.ListN.{length}
+use mir.Syntax.{w64}
+use mir.Val.{SFits}
 use Rattle.lists.specs.Every.{Every, every-append, every-map}
 use Rattle.sampleinfo.specs.States.{handleOf}
 use Rattle.sampleinfo.specs.Lifecycle.{countsOf, becomes}
 use Rattle.sampleinfo.specs.Samples.{unread, totalOf}
+use Rattle.sampleinfo.specs.declared.Ranks.{Ranks}
 use Rattle.model.specs.Pairs.{Pair}
-use Rattle.model.specs.Model.{Model, Instance, Live, Arrival, SetUp, Call, setUp, add, dies, look, list, after, Place, gone, held, find, put, liveIn, lives, push, mark, listedIn, touch, listed, left, oldOf, refusalOf, arrived, bodyIn, stateIn, accept, adding, dying, access, accessing, fine, within, keepOf, fresh, settingUp, step, keyed, named, latest, latestTotal, instanceTotal, lastTotal, infoOf, infoAt, infosOf, choices, choosing, scope}
+use Rattle.model.specs.Model.{Model, Instance, Live, Arrival, SetUp, Call, setUp, add, dies, look, list, after, Place, gone, held, find, put, liveIn, lives, push, mark, listedIn, touch, listed, left, oldOf, refusalOf, arrived, bodyIn, stateIn, accept, adding, dying, access, accessing, fine, within, keepOf, fresh, settingUp, step, keyed, named, latest, latestTotal, instanceTotal, lastTotal, Edition, byTheRust, ranksAt, infoOf, infoAt, infosOf, choices, choosing, scope}
 use Rattle.readcondition.specs.Masks.{isValid}
 use Rattle.refine.specs.Good.{Good, Bounded}
 use Rattle.refine.specs.GoodLaws.{good-accept}
@@ -120,15 +123,19 @@ small-step m g h (look w x room) c = h
 small-step m g h (list t ps room) c = small-accessing t m h ps room
 small-step m g h (after n) c = h
 
--- ---- what a list shows: ranks are of two totals, of an instance or of a live sample each
+-- ---- what a list shows: in edition 1 ranks are of two totals, of an instance or of a live sample each
 
-small-info : (f g a : ℕ) (i : Instance) (s : Live) → g ≤ 2147483647 → a ≤ 2147483647 → SmallLive s → SmallInfo (infoOf f g a i s)
-small-info f g a i s p q h = record {
+record SmallRanks (r : Ranks) : Type 0 where
+  generation : SFits w64 (r .«generation_rank»)
+  absolute : SFits w64 (r .«absolute_generation_rank»)
+
+small-info : (r : Ranks) (i : Instance) (s : Live) → SmallRanks r → SmallLive s → SmallInfo (infoOf r i s)
+small-info r i s k h = record {
   handle = h .handle;
   disposed = omega (arith, h .total);
   noWriters = omega (arith, h .total);
-  generation = record { sfits = mag-rank g (totalOf (s .sample)) (2 ^ 63) (omega arith) (omega (arith, h .total)) };
-  absolute = record { sfits = mag-rank a (totalOf (s .sample)) (2 ^ 63) (omega arith) (omega (arith, h .total)) };
+  generation = k .generation;
+  absolute = k .absolute;
 }
 
 every-lives : (P : Live → Type 0) (is : List Instance) → Every (λ i. Every P (liveIn (i .places))) is → Every P (lives is)
@@ -154,27 +161,39 @@ module _ (m : Model) (g : Good m) (h : AllSmall m) where
       go (some i) e = every-find Bounded (p .name) (m .instances) i (g .totals) e
   last-small (p ∷ q ∷ ps) = last-small (q ∷ ps)
 
-  module _ (r a : ℕ) (u : r ≤ 2147483647) (v : a ≤ 2147483647) where
-    small-at : (f : ℕ) (p : Pair) (o : Option Instance) → find (p .name) (m .instances) ≡ o → Every SmallInfo (infoAt f r a o (named p o))
-    unfolding Every
-    small-at f p none e = tt
-    small-at f p (some i) e = go (keyed (p .key) (liveIn (i .places))) refl
+  module _ (e : Edition) (whole : List Pair) where
+    small-ranks : (behind : List Pair) (i : Instance) (s : Live) → SmallLive s → SmallRanks (ranksAt e m whole behind i s)
+    unfolding ranksAt
+    small-ranks behind i s k = go e
       where
-        go : (o : Option Live) → keyed (p .key) (liveIn (i .places)) ≡ o → Every SmallInfo (infoAt f r a (some i) o)
-        go none q = tt
-        go (some s) q = (small-info f r a i s u v (every-keyed SmallLive (p .key) (liveIn (i .places)) s (every-find SmallIn (p .name) (m .instances) i h e) q), tt)
+        go : (e : Edition) → SmallRanks (ranksAt e m whole behind i s)
+        go byTheRust = record {
+          generation = record { sfits = mag-rank (lastTotal m whole) (totalOf (s .sample)) (2 ^ 63) (omega (arith, last-small whole)) (omega (arith, k .total)) };
+          absolute = record { sfits = mag-rank (latestTotal (latest (lives (m .instances)))) (totalOf (s .sample)) (2 ^ 63) (omega (arith, latest-small)) (omega (arith, k .total)) };
+        }
 
-    small-infos : (ps : List Pair) → Every SmallInfo (infosOf m r a ps)
+    small-at : (ps : List Pair) (p : Pair) (o : Option Instance) → find (p .name) (m .instances) ≡ o → Every SmallInfo (infoAt (ranksAt e m whole ps) o (named p o))
+    unfolding Every
+    small-at ps p none f = tt
+    small-at ps p (some i) f = go (keyed (p .key) (liveIn (i .places))) refl
+      where
+        go : (o : Option Live) → keyed (p .key) (liveIn (i .places)) ≡ o → Every SmallInfo (infoAt (ranksAt e m whole ps) (some i) o)
+        go none q = tt
+        go (some s) q =
+            let k : SmallLive s = every-keyed SmallLive (p .key) (liveIn (i .places)) s (every-find SmallIn (p .name) (m .instances) i h f) q in
+            (small-info (ranksAt e m whole ps i s) i s (small-ranks ps i s k) k, tt)
+
+    small-infos : (ps : List Pair) → Every SmallInfo (infosOf e m whole ps)
     unfolding infosOf Every
     small-infos [] = tt
     small-infos (p ∷ ps) =
         let o : Option Instance = find (p .name) (m .instances) in
-        every-append SmallInfo (infoAt (length ps) r a o (named p o)) (infosOf m r a ps) (small-at (length ps) p o refl) (small-infos ps)
+        every-append SmallInfo (infoAt (ranksAt e m whole ps) o (named p o)) (infosOf e m whole ps) (small-at ps p o refl) (small-infos ps)
 
   small-shown : (t : Bool) (ps : List Pair) (room : ℕ) → SmallAnswer (accessing t m ps room .answer)
   unfolding accessing access
   small-shown t ps room = split (fine m ps)
-      (λ e. split (leb (length ps) room) (λ l. rw (e, l) (small-infos _ _ (last-small ps) latest-small ps)) (λ l. rw (e, l) tt))
+      (λ e. split (leb (length ps) room) (λ l. rw (e, l) (small-infos byTheRust ps ps)) (λ l. rw (e, l) tt))
       (λ e. rw e tt)
 
 pub small-answer : (m : Model) → Good m → AllSmall m → (c : Call) → SmallAnswer (step m c .answer)

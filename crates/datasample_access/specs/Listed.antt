@@ -4,6 +4,7 @@ use mathlib.Core.Bool.{Bool, true, false, cond}
 use mathlib.Core.List.{List, [], _∷_}
 use Prim.Native.Nat.{ℕ}
 use lib.ListN.{length, replicate}
+use Rattle.sampleinfo.specs.declared.NotAliveGenerationCounts.{NotAliveGenerationCounts}
 use Rattle.sampleinfo.specs.declared.Sample.{Sample}
 use Rattle.model.specs.Model as M
 use Rattle.model.specs.Model.{Model, Answer, Step, Call, step, refuse}
@@ -12,6 +13,7 @@ use Rattle.store.specs.Store.{Store, latestSlot}
 use Rattle.index.specs.Memory.{Tied}
 use Rattle.index.specs.declared.Cache.{Cache}
 use Rattle.infos.specs.Words.{putInfos, infosThen}
+use Rattle.infos.specs.declared.Ranking.{Ranking}
 use Rattle.samples.specs.Table.{peekAt, touched}
 use Rattle.memory.specs.Lies.{Lies}
 use Rattle.access.specs.Access.{run, infosBy, notedAll, lastCounts, settled}
@@ -56,8 +58,12 @@ unfoldable pub touchedAll : List Sample → Bool → List ℕ → List Sample
 touchedAll t take [] = t
 touchedAll t take (k ∷ ks) = touchedAll (touched t k take) take ks
 
+-- what the ranks of a list are counted from: "the total of the latest-keyed live sample of the whole cache", "the latest total of the last pair's instance"
+abbrev pub rankingOf : Sample → NotAliveGenerationCounts → Ranking
+rankingOf latest mrsic = record { «mrs_generations» = latest .«generation_counts»; «mrsic_generations» = mrsic }
+
 -- "with everything as before the call": the infos and what they show are made of the table and the words at entry
 pub record Served (s : Store) (take : Bool) (n : ℕ) (slots ws : List ℕ) (t : List Sample) (out : List ℕ) (r : Cache) (words : List ℕ) (table : List Sample) (after : List ℕ) : Type 0 where
   pub tied : Tied (settled s take (run n 0 slots) (notedAll ws t (replicate 32 0) (run n 0 slots))) r words
   pub touched : table ≡ touchedAll t take (run n 0 slots)
-  pub infos : after ≡ putInfos out 0 (infosBy ws t (peekAt t (latestSlot s) .«generation_counts») (lastCounts ws slots n) (run n 0 slots))
+  pub infos : after ≡ putInfos out 0 (infosBy ws t (rankingOf (peekAt t (latestSlot s)) (lastCounts ws slots n)) (run n 0 slots))

@@ -11,12 +11,11 @@ use lib.ListN.{take as take-list}
 use lib.Seq.{take-all}
 use lib.Dec.{ltb, leb}
 use Rattle.lists.specs.Every.{Every}
-use Rattle.sampleinfo.specs.Samples.{totalOf}
 use Rattle.sampleinfo.specs.declared.NotAliveGenerationCounts.{NotAliveGenerationCounts}
 use Rattle.sampleinfo.specs.declared.Sample.{Sample}
 use Rattle.model.specs.Pairs.{Pair, Bad, firstBad, noneBad}
 use Rattle.model.specs.Model as M
-use Rattle.model.specs.Model.{Model, isLive, fine, infosFor, access, accessing, step, refuse}
+use Rattle.model.specs.Model.{Model, isLive, fine, infosFor, access, accessing, step, refuse, Edition, byTheRust}
 use Rattle.model.specs.BadLaws.{allLive, fine-live}
 use Rattle.pairs.specs.Flat.{pairsOf, wholePairs}
 use Rattle.pairs.specs.FlatLaws.{length-pairs}
@@ -35,6 +34,7 @@ use Rattle.refine.specs.Fold.{and-true, Names, names-of, known-of}
 use Rattle.refine.specs.Viewed.{take-store, take-table, read-store, read-table}
 use Rattle.refine.specs.Infos.{infos-is, first-bad-is}
 use Rattle.refine.specs.Lists.{slotsNamed, freedAll, clearedAll, markedAll, seenAt, viewedRows, slotInfos, infosAt}
+use Rattle.infos.specs.declared.Ranking.{Ranking}
 use Rattle.infos.specs.Words.{placesIn, putInfos, infosThen, wordsOfInfos}
 use Rattle.infos.specs.FlatLaws.{put-all}
 use Rattle.samples.specs.Table.{peekAt}
@@ -42,22 +42,22 @@ use Rattle.memory.specs.Lies.{Lies, tied, table-long}
 use Rattle.access.specs.Access.{run, namedFirst, numberOf, orShort, listRefusal, slotsAfter, Refuses, Judges, lastCounts, notedAll, infosBy, freedEach, settled}
 use Rattle.datasample_access.specs.declared.Listed.the-variants as listed
 use Rattle.datasample_access.specs.declared.ListOutcome.{ListOutcome}
-use Rattle.datasample_access.specs.Listed.{Told, listing, Came, notListed, Unfit, no-table, odd, listedWith, touchedAll, Served}
-use Rattle.datasample_access.specs.SlotLaws.{run-front, Owned, infos-slots, last-any, noted-all, zero-at, viewed-same, freed-each, touched-take, touched-read}
+use Rattle.datasample_access.specs.Listed.{Told, listing, Came, notListed, Unfit, no-table, odd, listedWith, touchedAll, rankingOf, Served}
+use Rattle.datasample_access.specs.SlotLaws.{run-front, Owned, RankedBy, infos-slots, last-total, noted-all, zero-at, viewed-same, freed-each, touched-take, touched-read}
 use Rattle.datasample_access.specs.FewLaws.{few-pairs}
 
 -- ---- what the code's steps come to
 
-pub serve-done : (h r : Cache) (take : Bool) (n : ℕ) (slots ws words : List ℕ) (t table : List Sample) (out after : List ℕ) (last : ℕ) (x : Sample) (mrs mrsic : NotAliveGenerationCounts) (seen noted : List ℕ)
-    → after ≡ putInfos out 0 (infosBy ws t mrs mrsic (run n 0 slots)) → noted ≡ notedAll ws t seen (run n 0 slots) → seen ≡ replicate 32 0 → mrs ≡ x .«generation_counts» → x ≡ peekAt t last
+pub serve-done : (h r : Cache) (take : Bool) (n : ℕ) (slots ws words : List ℕ) (t table : List Sample) (out after : List ℕ) (last : ℕ) (x : Sample) (mrsic : NotAliveGenerationCounts) (ranking : Ranking) (seen noted : List ℕ)
+    → after ≡ putInfos out 0 (infosBy ws t ranking (run n 0 slots)) → noted ≡ notedAll ws t seen (run n 0 slots) → seen ≡ replicate 32 0 → ranking ≡ rankingOf x mrsic → x ≡ peekAt t last
     → mrsic ≡ lastCounts ws slots n → table ≡ touchedAll t take (run n 0 slots) → ((z : Store) → Tied z h ws → last ≡ latestSlot z)
     → ((z : Store) → Tied z h ws → Tied (settled z take (run n 0 slots) noted) r words)
     → (s : Store) → Tied s h ws → Served s take n slots ws t out r words table after
-serve-done h r take n slots ws words t table out after last x mrs mrsic seen noted ea en es em ex ei et el er s k = record {
+serve-done h r take n slots ws words t table out after last x mrsic ranking seen noted ea en es em ex ei et el er s k = record {
   tied = rw (← es, ← en) (er s k);
   touched = et;
-  infos = ea ∙ ap (λ (c : NotAliveGenerationCounts). putInfos out 0 (infosBy ws t c mrsic (run n 0 slots))) (em ∙ ap (λ (y : Sample). y .«generation_counts») (ex ∙ ap (peekAt t) (el s k)))
-      ∙ ap (λ (c : NotAliveGenerationCounts). putInfos out 0 (infosBy ws t (peekAt t (latestSlot s) .«generation_counts») c (run n 0 slots))) ei;
+  infos = ea ∙ ap (λ (q : Ranking). putInfos out 0 (infosBy ws t q (run n 0 slots)))
+      (em ∙ ap (λ (y : Sample). rankingOf y mrsic) (ex ∙ ap (peekAt t) (el s k)) ∙ ap (rankingOf (peekAt t (latestSlot s))) ei);
 }
 
 module _ (m : Model) (g : Good m) where
@@ -187,10 +187,10 @@ module _ (m : Model) (g : Good m) where
 
 -- ---- accepted
 
-length-infos : (a b : ℕ) (s : Store) (t : List Sample) (ks : List ℕ) → length (slotInfos a b s t ks) ≡ length ks
+length-infos : (e : Edition) (s : Store) (t : List Sample) (whole ks : List ℕ) → length (slotInfos e s t whole ks) ≡ length ks
 unfolding slotInfos
-length-infos a b s t [] = refl
-length-infos a b s t (k ∷ ks) = ap suc (length-infos a b s t ks)
+length-infos e s t whole [] = refl
+length-infos e s t whole (k ∷ ks) = ap suc (length-infos e s t whole ks)
 
 module _ (m : Model) (g : Good m) (h : Cache) (ws : List ℕ) (t : List Sample) (l : Lies m h ws t) (take : Bool) (ps : List Pair) (ok : fine m ps ≡ true) where
   abbrev s : Store
@@ -241,13 +241,18 @@ module _ (m : Model) (g : Good m) (h : Cache) (ws : List ℕ) (t : List Sample) 
     length-ks : n ≡ length ks
     length-ks = e ∙ sym (length-map ps (slotNamed s))
 
-    infos-made : infosBy ws t (peekAt t (latestSlot s) .«generation_counts») (lastCounts ws (ks ++ rest) n) ks ≡ infosFor m ps
-    infos-made = infos-slots s (fit-of m g) ws (l .words) t (peekAt t (latestSlot s) .«generation_counts») (lastCounts ws (ks ++ rest) n) ks every-owned
-        ∙ last-any s (fit-of m g) ws (l .words) t (totalOf (peekAt t (latestSlot s))) n ks rest length-ks (omega arith) every-owned
+    abbrev ranking : Ranking
+    ranking = rankingOf (peekAt t (latestSlot s)) (lastCounts ws (ks ++ rest) n)
+
+    ranked : RankedBy s (fit-of m g) ws (l .words) t ranking ks
+    ranked = record { mrs = refl; mrsic = last-total s (fit-of m g) ws (l .words) t n ks rest length-ks (omega arith) every-owned }
+
+    infos-made : infosBy ws t ranking ks ≡ infosFor m ps
+    infos-made = infos-slots s (fit-of m g) ws (l .words) t ranking ks ks ranked every-owned
         ∙ ap (λ (x : List Sample). infosAt s x ks) (l .table) ∙ sym (infos-is m g ps live)
 
     length-made : length (infosFor m ps) ≡ n
-    length-made = ap length (infos-is m g ps live) ∙ length-infos _ _ s (tableOf m) ks ∙ sym length-ks
+    length-made = ap length (infos-is m g ps live) ∙ length-infos byTheRust s (tableOf m) ks ks ∙ sym length-ks
 
     told : (out after : List ℕ) → after ≡ wordsOfInfos (infosFor m ps) ++ drop (27 * length (infosFor m ps)) out → Told (access take m ps .answer) (listed.Infos n) out after
     unfolding access infosThen
@@ -259,7 +264,7 @@ module _ (m : Model) (g : Good m) (h : Cache) (ws : List ℕ) (t : List Sample) 
         let run-is : run n 0 (ks ++ rest) ≡ ks = run-front n ks rest length-ks (omega arith) in
         let k : Tied (settled s take ks (notedAll ws t (replicate 32 0) ks)) r words = rw run-is at (v .tied) in
         record {
-          answer = told out after (v .infos ∙ ap (λ (x : List ℕ). putInfos out 0 (infosBy ws t (peekAt t (latestSlot s) .«generation_counts») (lastCounts ws (ks ++ rest) n) x)) run-is ∙ ap (putInfos out 0) infos-made ∙ put-all out (infosFor m ps) (omega (arith, length-made)));
+          answer = told out after (v .infos ∙ ap (λ (x : List ℕ). putInfos out 0 (infosBy ws t ranking x)) run-is ∙ ap (putInfos out 0) infos-made ∙ put-all out (infosFor m ps) (omega (arith, length-made)));
           lies = record {
             head = k .head ∙ ap headOf store-is;
             words = k .words ∙ ap indexOf store-is;

@@ -15,17 +15,18 @@ use Rattle.lists.specs.Blocks.{length-put-in}
 use Rattle.sampleinfo.specs.Counts.{total, accessedAt}
 use Rattle.sampleinfo.specs.Lifecycle.{countsOf}
 use Rattle.sampleinfo.specs.Samples.{emptySample, totalOf}
-use Rattle.sampleinfo.specs.declared.NotAliveGenerationCounts.{NotAliveGenerationCounts}
 use Rattle.sampleinfo.specs.declared.Sample.{Sample}
 use Rattle.sampleinfo.specs.declared.Info.{Info}
-use Rattle.store.specs.Store.{Store, freed, accessedIn}
+use Rattle.model.specs.Model.{byTheRust}
+use Rattle.store.specs.Store.{Store, latestSlot, freed, accessedIn}
 use Rattle.store.specs.Fit.{Fit}
 use Rattle.index.specs.Words.{metasIn, ownersIn, metaAt}
 use Rattle.index.specs.Memory.{indexOf}
 use Rattle.index.specs.MemoryLaws.{owners-are, meta-is}
 use Rattle.refine.specs.Tables.{split}
-use Rattle.refine.specs.Lists.{ownerAt, freedAll, clearedAll, markedAll, seenAt, viewedRows, lastOwned, slotInfos}
-use Rattle.infos.specs.Infos.{infoFrom}
+use Rattle.refine.specs.Lists.{ownerAt, freedAll, clearedAll, markedAll, seenAt, viewedRows, lastOwned, ranksOn, slotInfos}
+use Rattle.infos.specs.Infos.{ranksFrom, infoFrom}
+use Rattle.infos.specs.declared.Ranking.{Ranking}
 use Rattle.infos.specs.Words.{placesIn, laid, putInfo, putInfos}
 use Rattle.infos.specs.BackLaws.{words-long}
 use Rattle.samples.specs.Table.{peekAt, touched}
@@ -64,12 +65,12 @@ length-run (suc n) p l = ap suc (length-run n (p + 1) l)
 -- ---- the loops
 
 module _ (ws : List ℕ) (t : List Sample) (slots : List ℕ) where
-  module _ (mrs mrsic : NotAliveGenerationCounts) where
-    pub put-start : (n : ℕ) (l : List ℕ) → putInfos l 0 (infosBy ws t mrs mrsic (run (n - 0) 0 slots)) ≡ putInfos l 0 (infosBy ws t mrs mrsic (run n 0 slots))
-    put-start n l = ap (λ (k : ℕ). putInfos l 0 (infosBy ws t mrs mrsic (run k 0 slots))) (sub-zero n)
+  module _ (r : Ranking) where
+    pub put-start : (n : ℕ) (l : List ℕ) → putInfos l 0 (infosBy ws t r (run (n - 0) 0 slots)) ≡ putInfos l 0 (infosBy ws t r (run n 0 slots))
+    put-start n l = ap (λ (k : ℕ). putInfos l 0 (infosBy ws t r (run k 0 slots))) (sub-zero n)
 
-    infos-next : (m p : ℕ) → infosBy ws t mrs mrsic (run (suc m) p slots)
-        ≡ infoFrom (peekAt t (slotAt slots p)) (metaAt (metasIn ws) (getD (ownersIn ws) (slotAt slots p) 0)) m mrs mrsic ∷ infosBy ws t mrs mrsic (run m (p + 1) slots)
+    infos-next : (m p : ℕ) → infosBy ws t r (run (suc m) p slots)
+        ≡ infoFrom (peekAt t (slotAt slots p)) (metaAt (metasIn ws) (getD (ownersIn ws) (slotAt slots p) 0)) (ranksFrom r m (peekAt t (slotAt slots p) .«generation_counts»)) ∷ infosBy ws t r (run m (p + 1) slots)
     unfolding run infosBy
     infos-next m p = rw (length-run m (p + 1) slots)
 
@@ -77,19 +78,19 @@ module _ (ws : List ℕ) (t : List Sample) (slots : List ℕ) where
     unfolding putInfos
     put-next l p x xs = refl
 
-    pub put-turn : (n p slot : ℕ) (s : Sample) (l k all : List ℕ) → putInfos l p (infosBy ws t mrs mrsic (run (n - p) p slots)) ≡ all → p < n → slot ≡ slotAt slots p → s ≡ peekAt t slot
-        → k ≡ putInfo l p (infoFrom s (metaAt (metasIn ws) (getD (ownersIn ws) slot 0)) (n - 1 - p) mrs mrsic)
-        → putInfos k (p + 1) (infosBy ws t mrs mrsic (run (n - (p + 1)) (p + 1) slots)) ≡ all
+    pub put-turn : (n p slot : ℕ) (s : Sample) (l k all : List ℕ) → putInfos l p (infosBy ws t r (run (n - p) p slots)) ≡ all → p < n → slot ≡ slotAt slots p → s ≡ peekAt t slot
+        → k ≡ putInfo l p (infoFrom s (metaAt (metasIn ws) (getD (ownersIn ws) slot 0)) (ranksFrom r (n - 1 - p) (s .«generation_counts»)))
+        → putInfos k (p + 1) (infosBy ws t r (run (n - (p + 1)) (p + 1) slots)) ≡ all
     put-turn n p slot s l k all inv h e f q =
         let one : n - p ≡ suc (n - (p + 1)) = omega arith in
         let follow : n - 1 - p ≡ n - (p + 1) = omega arith in
-        let rest : List Info = infosBy ws t mrs mrsic (run (n - (p + 1)) (p + 1) slots) in
+        let rest : List Info = infosBy ws t r (run (n - (p + 1)) (p + 1) slots) in
         rw (q, follow, f, e)
-        (sym (ap (λ (m : ℕ). putInfos l p (infosBy ws t mrs mrsic (run m p slots))) one ∙ ap (putInfos l p) (infos-next (n - (p + 1)) p) ∙ put-next l p _ rest) ∙ inv)
+        (sym (ap (λ (m : ℕ). putInfos l p (infosBy ws t r (run m p slots))) one ∙ ap (putInfos l p) (infos-next (n - (p + 1)) p) ∙ put-next l p _ rest) ∙ inv)
 
-    pub put-end : (n p : ℕ) (l all : List ℕ) → putInfos l p (infosBy ws t mrs mrsic (run (n - p) p slots)) ≡ all → n ≤ p → l ≡ all
+    pub put-end : (n p : ℕ) (l all : List ℕ) → putInfos l p (infosBy ws t r (run (n - p) p slots)) ≡ all → n ≤ p → l ≡ all
     unfolding run infosBy putInfos
-    put-end n p l all inv h = let none : n - p ≡ 0 = omega arith in sym (ap (λ (m : ℕ). putInfos l p (infosBy ws t mrs mrsic (run m p slots))) none) ∙ inv
+    put-end n p l all inv h = let none : n - p ≡ 0 = omega arith in sym (ap (λ (m : ℕ). putInfos l p (infosBy ws t r (run m p slots))) none) ∙ inv
 
   pub note-start : (n : ℕ) (l : List ℕ) → notedAll ws t l (run (n - 0) 0 slots) ≡ notedAll ws t l (run n 0 slots)
   note-start n l = ap (λ (k : ℕ). notedAll ws t l (run k 0 slots)) (sub-zero n)
@@ -151,10 +152,19 @@ module _ (s : Store) (f : Fit s) (ws : List ℕ) (w : ws ≡ indexOf s) (t : Lis
   meta-word : (k : ℕ) → Owned s k → metaAt (metasIn ws) (getD (ownersIn ws) k 0) ≡ ownerAt s k .meta
   meta-word k o = ap (metaAt (metasIn ws)) (owner-word k) ∙ ap (λ (x : List ℕ). metaAt (metasIn x) (getD (s .owners) k 0)) w ∙ meta-is s f (getD (s .owners) k 0) o
 
-  pub infos-slots : (mrs mrsic : NotAliveGenerationCounts) (ks : List ℕ) → Every (Owned s) ks → infosBy ws t mrs mrsic ks ≡ slotInfos (total mrsic) (total mrs) s t ks
+  -- the two latest totals that the ranks of edition 1 are counted from
+  pub record RankedBy (r : Ranking) (whole : List ℕ) : Type 0 where
+    pub mrs : total (r .«mrs_generations») ≡ totalOf (peekAt t (latestSlot s))
+    pub mrsic : total (r .«mrsic_generations») ≡ lastOwned s whole
+
+  ranks-slots : (r : Ranking) (whole behind : List ℕ) (k : ℕ) → RankedBy r whole → ranksFrom r (length behind) (peekAt t k .«generation_counts») ≡ ranksOn byTheRust s t whole behind k
+  unfolding ranksFrom ranksOn
+  ranks-slots r whole behind k e = rw (e .mrs, e .mrsic)
+
+  pub infos-slots : (r : Ranking) (whole ks : List ℕ) → RankedBy r whole → Every (Owned s) ks → infosBy ws t r ks ≡ slotInfos byTheRust s t whole ks
   unfolding infosBy slotInfos Every infoFrom
-  infos-slots mrs mrsic [] o = refl
-  infos-slots mrs mrsic (k ∷ ks) o = rw (meta-word k (o .0), infos-slots mrs mrsic ks (o .1))
+  infos-slots r whole [] e o = refl
+  infos-slots r whole (k ∷ ks) e o = rw (meta-word k (o .0), ranks-slots r whole ks k e, infos-slots r whole ks e (o .1))
 
   last-slots : (k : ℕ) (ks rest : List ℕ) → Every (Owned s) (k ∷ ks) → total (countsOf (metaAt (metasIn ws) (getD (ownersIn ws) (getD ((k ∷ ks) ++ rest) (length ks) 0) 0))) ≡ lastOwned s (k ∷ ks)
   unfolding lastOwned Every
@@ -167,11 +177,10 @@ module _ (s : Store) (f : Fit s) (ws : List ℕ) (w : ws ≡ indexOf s) (t : Lis
       let one : n - 1 ≡ length ks = omega arith in
       rw (ne-eqb n 0 (λ z. omega arith), one, lt-ltb (length ks) 256 (omega arith)) (last-slots k ks rest o)
 
-  -- an empty list has no last pair, and no info
-  pub last-any : (mrs n : ℕ) (ks rest : List ℕ) → n ≡ length ks → n ≤ 256 → Every (Owned s) ks → slotInfos (total (lastCounts ws (ks ++ rest) n)) mrs s t ks ≡ slotInfos (lastOwned s ks) mrs s t ks
-  unfolding slotInfos
-  last-any mrs n [] rest e h o = refl
-  last-any mrs n (k ∷ ks) rest e h o = ap (λ (x : ℕ). slotInfos x mrs s t (k ∷ ks)) (last-counts n k ks rest e h o)
+  pub last-total : (n : ℕ) (ks rest : List ℕ) → n ≡ length ks → n ≤ 256 → Every (Owned s) ks → total (lastCounts ws (ks ++ rest) n) ≡ lastOwned s ks
+  unfolding lastCounts lastOwned
+  last-total n [] rest e h o = rw (eq-eqb n 0 e)
+  last-total n (k ∷ ks) rest e h o = last-counts n k ks rest e h o
 
   -- what is noted is what was seen
 

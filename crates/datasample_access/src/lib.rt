@@ -8,7 +8,7 @@ ghost use Rattle.refine.specs.Good.{Good};
 ghost use Rattle.memory.specs.Lies.{Lies};
 ghost use Rattle.infos.specs.Words.{placesIn, putInfos};
 ghost use Rattle.access.specs.Access.{run, infosBy, notedAll};
-ghost use Rattle.datasample_access.specs.Listed.{touchedAll, Served, notListed, Unfit, listedWith, listing, Came};
+ghost use Rattle.datasample_access.specs.Listed.{touchedAll, rankingOf, Served, notListed, Unfit, listedWith, listing, Came};
 ghost use mathlib.Core.Bool.{true, false};
 
 pub enum Listed {
@@ -22,10 +22,18 @@ pub struct ListOutcome {
     pub answer: Listed,
 }
 
-fn counts_of(s: sampleinfo::Sample) -> sampleinfo::NotAliveGenerationCounts
-    ensures { λ r. ⌜ r ≡ s .«generation_counts» ⌝ }
+// What the ranks of a list are counted from: the latest-keyed live sample of the cache, and the counts of the last pair's instance.
+fn ranking_of(
+    latest: sampleinfo::Sample,
+    mrsic_generations: sampleinfo::NotAliveGenerationCounts,
+) -> infos::Ranking
+    ensures { λ r. ⌜ r ≡ rankingOf latest «mrsic_generations» ⌝ }
 {
-    s.generation_counts
+    let mrs_generations = latest.generation_counts;
+    infos::Ranking {
+        mrs_generations: mrs_generations,
+        mrsic_generations: mrsic_generations,
+    }
 }
 
 fn declined(h: index::Cache, n: u64) -> ListOutcome
@@ -52,19 +60,18 @@ fn collect(
     ws: &[u64; 928],
     slots: &[u64; 256],
     n: usize,
-    mrs: sampleinfo::NotAliveGenerationCounts,
-    mrsic: sampleinfo::NotAliveGenerationCounts,
+    ranking: infos::Ranking,
     out: &mut [u64],
     seen: &mut [u64; 32],
 )
-    ensures { λ _. ⌜ now (out .exit) ≡ putInfos (now (out .entry)) 0 (infosBy (now (ws .entry)) (now (t .entry)) mrs mrsic (run n 0 (now (slots .entry)))) ⌝ }
+    ensures { λ _. ⌜ now (out .exit) ≡ putInfos (now (out .entry)) 0 (infosBy (now (ws .entry)) (now (t .entry)) ranking (run n 0 (now (slots .entry)))) ⌝ }
     ensures { λ _. ⌜ now (seen .exit) ≡ notedAll (now (ws .entry)) (now (t .entry)) (now (seen .entry)) (run n 0 (now (slots .entry))) ⌝ }
 {
     let mut p: usize = 0;
     while p < n {
         let slot = access::slot_at(slots, p);
         let s = samples::peek(t, slot);
-        access::show(ws, slot, s, p, n - 1 - p, mrs, mrsic, out, seen);
+        access::show(ws, slot, s, p, n - 1 - p, ranking, out, seen);
         p += 1;
     }
 }
@@ -94,10 +101,10 @@ fn serve(
     ensures { λ r. ⌜ ((s : Store) → Tied s h (now (ws .entry)) → Served s take n (now (slots .entry)) (now (ws .entry)) (now (t .entry)) (now (out .entry)) r (now (ws .exit)) (now (t .exit)) (now (out .exit))) ⌝ }
 {
     let last = lookup::latest_slot(h, ws);
-    let mrs = counts_of(samples::peek(t, last));
-    let mrsic = access::last_counts(ws, slots, n);
+    let latest = samples::peek(t, last);
+    let ranking = ranking_of(latest, access::last_counts(ws, slots, n));
     let mut seen = [0u64; 32];
-    collect(t, ws, slots, n, mrs, mrsic, out, &mut seen);
+    collect(t, ws, slots, n, ranking, out, &mut seen);
     touch_all(t, slots, n, take);
     access::settle(h, ws, slots, n, take, &seen)
 }

@@ -20,7 +20,8 @@ use Rattle.sampleinfo.specs.declared.Body.{Body}
 use Rattle.sampleinfo.specs.declared.Body.the-variants.{Value, Dispose}
 use Rattle.sampleinfo.specs.declared.Sample.{Sample}
 use Rattle.sampleinfo.specs.declared.Info.{Info}
-use Rattle.infos.specs.Infos.{infoFrom}
+use Rattle.infos.specs.declared.Ranking.{Ranking}
+use Rattle.infos.specs.Infos.{ranksFrom, infoFrom}
 use Rattle.infos.specs.Words.{bodyOfWords, sampleOfBit, viewOfBit, bytesOf, writerWords, infoWords, Typed, placesIn, laid, putInfo, infoIn, getInfo}
 use Rattle.infos.specs.RankLaws.{rank-back, mag-rank}
 use Rattle.infos.specs.PutLaws.{writer-is}
@@ -130,17 +131,17 @@ module _ (l : List ℕ) (p : ℕ) (x : Info) (h : p < placesIn l) where
 
 -- ---- the info of a sample is of its types, where the records that it is made from are
 
-pub typed-from : (s : Sample) (i : InstanceMetaData) (follow : ℕ) (mrs mrsic : NotAliveGenerationCounts)
+pub typed-from : (s : Sample) (i : InstanceMetaData) (l : Ranking) (follow : ℕ)
     → handleOf (s .body) < 2 ^ 32 → disposedCount (s .«generation_counts») < 2 ^ 32 → noWritersCount (s .«generation_counts») < 2 ^ 32
     → length (s .«writer_guid») ≡ 16 → ((k : ℕ) → getD (s .«writer_guid») k 0 < 256)
-    → total mrs < 2 ^ 33 → total mrsic < 2 ^ 33 → Typed (infoFrom s i follow mrs mrsic)
-unfolding infoFrom
-typed-from s i follow mrs mrsic h d n w b m c = record {
+    → total (l .«mrs_generations») < 2 ^ 33 → total (l .«mrsic_generations») < 2 ^ 33 → Typed (infoFrom s i (ranksFrom l follow (s .«generation_counts»)))
+unfolding infoFrom ranksFrom
+typed-from s i l follow h d n w b m c = record {
   handle = h;
   disposed = d;
   noWriters = n;
-  generation = record { sfits = mag-rank (total mrsic) (totalOf s) (2 ^ 63) (omega arith) (omega arith) };
-  absolute = record { sfits = mag-rank (total mrs) (totalOf s) (2 ^ 63) (omega arith) (omega arith) };
+  generation = record { sfits = mag-rank (total (l .«mrsic_generations»)) (totalOf s) (2 ^ 63) (omega arith) (omega arith) };
+  absolute = record { sfits = mag-rank (total (l .«mrs_generations»)) (totalOf s) (2 ^ 63) (omega arith) (omega arith) };
   sixteen = w;
   bytes = b;
 }

@@ -1,16 +1,17 @@
-// datasample_cache.rs, make_sample_info: the info of a sample; and infos as words of the lent result buffer.
+// datasample_cache.rs, make_sample_info: the info of a sample, with the ranks of its place; and infos as words of the lent result buffer.
 ghost use mathlib.Core.Path.{_≡_};
 ghost use Prim.Native.Nat.{_+_, _≤_};
 ghost use lib.ListN.{length, take, drop};
 ghost use Rattle.sampleinfo.specs.Counts.{total};
 ghost use Rattle.model.specs.Views.{viewOf, rankFrom};
-ghost use Rattle.infos.specs.Infos.{infoFrom};
+ghost use Rattle.infos.specs.Infos.{ranksFrom, infoFrom};
 ghost use Rattle.infos.specs.Words.{wordOfRank, rankOfWord, bodyOfWords, sampleOfBit, viewOfBit, stateWords, rankWords, headWords, bytesOf, countsIn, placesIn, laid, putInfo, infoIn, noInfo, getInfo};
 use sampleinfo::Body;
 use sampleinfo::Info;
 use sampleinfo::InstanceMetaData;
 use sampleinfo::InstanceState;
 use sampleinfo::NotAliveGenerationCounts;
+use sampleinfo::Ranks;
 use sampleinfo::Sample;
 use sampleinfo::SampleState;
 use sampleinfo::ViewState;
@@ -31,16 +32,31 @@ fn view_state(imd: InstanceMetaData, counts: NotAliveGenerationCounts) -> ViewSt
     ViewState::NotNew
 }
 
-// sample_rank: how many samples follow this one. mrs: the counts of the latest-keyed live sample of the cache; mrsic: those of the
-// instance of the list's last pair.
-pub fn make_sample_info(
-    s: Sample,
-    imd: InstanceMetaData,
-    sample_rank: u64,
-    mrs_generations: NotAliveGenerationCounts,
-    mrsic_generations: NotAliveGenerationCounts,
-) -> Info
-    ensures { λ r. ⌜ r ≡ infoFrom s imd «sample_rank» «mrs_generations» «mrsic_generations» ⌝ }
+// What the ranks of a list are counted from, in edition 1.
+pub struct Ranking {
+    // the counts of the latest-keyed live sample of the cache
+    pub mrs_generations: NotAliveGenerationCounts,
+    // the counts of the instance of the list's last pair
+    pub mrsic_generations: NotAliveGenerationCounts,
+}
+
+impl Ranking {
+    // The ranks of a place that so many samples follow, of a sample with these counts.
+    pub fn of_place(self, follow: u64, counts: NotAliveGenerationCounts) -> Ranks
+        ensures { λ r. ⌜ r ≡ ranksFrom self follow counts ⌝ }
+    {
+        let mrs_generations = self.mrs_generations;
+        let mrsic_generations = self.mrsic_generations;
+        Ranks {
+            sample_rank: follow,
+            generation_rank: rank(mrsic_generations, counts),
+            absolute_generation_rank: rank(mrs_generations, counts),
+        }
+    }
+}
+
+pub fn make_sample_info(s: Sample, imd: InstanceMetaData, ranks: Ranks) -> Info
+    ensures { λ r. ⌜ r ≡ infoFrom s imd ranks ⌝ }
 {
     let counts = s.generation_counts;
     let body = s.body;
@@ -52,9 +68,9 @@ pub fn make_sample_info(
         view_state: view_state(imd, counts),
         instance_state: instance_state,
         generation_counts: counts,
-        sample_rank: sample_rank,
-        generation_rank: rank(mrsic_generations, counts),
-        absolute_generation_rank: rank(mrs_generations, counts),
+        sample_rank: ranks.sample_rank,
+        generation_rank: ranks.generation_rank,
+        absolute_generation_rank: ranks.absolute_generation_rank,
         publication_handle: writer,
         sequence_number: s.sequence_number,
     }

@@ -6,7 +6,7 @@ use mathlib.Core.List.{List, [], _∷_, _++_}
 use mathlib.Core.Option.{Option, some, none}
 use Prim.Native.Nat.{ℕ, zero, suc, _+_, _-_, _≤_, _<_}
 use native.Mathlib.Omega.{arith}
-use lib.ListN.{length}
+use lib.ListN.{length, drop, length-drop}
 use lib.Dec.{eqb, ltb}
 use lib.IntN.{pos, _-ℤ_}
 use borrow.Author.Tests.{eqb-true, ltb-true, ltb-false, lt-ltb, le-ltb}
@@ -19,9 +19,8 @@ use Rattle.sampleinfo.specs.declared.Info.{Info}
 use Rattle.model.specs.Pairs.{Pair}
 use Rattle.model.specs.Views.{rankFrom}
 use Rattle.model.specs.PairLaws.{in-append}
-use Rattle.model.specs.Model.{Model, Instance, Live, find, liveIn, lives, keyed, named, present, isLive}
+use Rattle.model.specs.Model.{Model, Instance, Live, find, liveIn, lives, keyed, named, present, isLive, later, latest, latestTotal, instanceTotal, lastTotal, infoOf, infoAt, infosOf, infosFor, Edition, byTheRust, ranksAt}
 use Rattle.model.specs.BadLaws.{allLive}
-use Rattle.model.specs.Model.{later, latest, latestTotal, instanceTotal, lastTotal, infoOf, infoAt, infosOf, infosFor}
 use Rattle.model.specs.Story.{livesOf, liveAt}
 use Rattle.model.specs.Demand3.{In, IsAt, AtPlace, Latest, Shows, timesHeld}
 use Rattle.model.proofs.Laws.{split}
@@ -122,37 +121,35 @@ module _ (m : Model) where
   last-is p [] h = let x = has-named p (both (isLive m p) true h .0) in (p, x .0, (refl, x .2 .0, ap instanceTotal (x .2 .0)))
   last-is p (q ∷ ps) h = last-is q ps (both (isLive m p) (allLive m (q ∷ ps)) h .1)
 
-  -- ---- a pair and its info, which `follow` others come after
-  abbrev FromPair : ℕ → ℕ → List Pair → ℕ → Pair → Info → Type 0
-  FromPair g a ps place p y = (follow : ℕ) × (i : Instance) × (s : Live) × Named p i s × (y ≡ infoOf follow g a i s) × (follow + (place + 1) ≡ length ps)
+  -- ---- a pair and its info, in any edition: `whole` is the list, ps what is left of it
+  module _ (e : Edition) (whole : List Pair) where
+    abbrev FromPair : List Pair → ℕ → Pair → Info → Type 0
+    FromPair ps place p y = (i : Instance) × (s : Live) × Named p i s × (y ≡ infoOf (ranksAt e m whole (drop (suc place) ps) i s) i s)
 
-  one-info : (f g a : ℕ) (p : Pair) (i : Instance) (s : Live) → Named p i s
-      → infoAt f g a (find (p .name) (m .instances)) (named p (find (p .name) (m .instances))) ≡ infoOf f g a i s ∷ []
-  one-info f g a p i s (e, k, h) = rw (e, k)
+    one-info : (ps : List Pair) (p : Pair) (i : Instance) (s : Live) → Named p i s
+        → infoAt (ranksAt e m whole ps) (find (p .name) (m .instances)) (named p (find (p .name) (m .instances))) ≡ infoOf (ranksAt e m whole ps i s) i s ∷ []
+    one-info ps p i s (f, k, h) = rw (f, k)
 
-  from-pair : (g a : ℕ) (ps : List Pair) → allLive m ps ≡ true → (place : ℕ) (p : Pair) (y : Info)
-      → AtPlace place ps p → AtPlace place (infosOf m g a ps) y → FromPair g a ps place p y
-  unfolding infosOf allLive
-  from-pair g a [] h place p y u v = absurd u
-  from-pair g a (q ∷ ps) h place p y u v = go (has-named q (b .0)) place u v (λ n. from-pair g a ps (b .1) n p y)
-    where
-      b : (isLive m q ≡ true) × (allLive m ps ≡ true)
-      b = both (isLive m q) (allLive m ps) h
+    from-pair : (ps : List Pair) → allLive m ps ≡ true → (place : ℕ) (p : Pair) (y : Info)
+        → AtPlace place ps p → AtPlace place (infosOf e m whole ps) y → FromPair ps place p y
+    unfolding infosOf allLive
+    from-pair [] h place p y u v = absurd u
+    from-pair (q ∷ ps) h place p y u v = go (has-named q (b .0)) place u v (λ n. from-pair ps (b .1) n p y)
+      where
+        b : (isLive m q ≡ true) × (allLive m ps ≡ true)
+        b = both (isLive m q) (allLive m ps) h
 
-      first : List Info
-      first = infoAt (length ps) g a (find (q .name) (m .instances)) (named q (find (q .name) (m .instances)))
+        first : List Info
+        first = infoAt (ranksAt e m whole ps) (find (q .name) (m .instances)) (named q (find (q .name) (m .instances)))
 
-      one-more : (f n l : ℕ) → f + (n + 1) ≡ l → f + (suc n + 1) ≡ suc l
-      one-more f n l e = omega arith
+        on : (i : Instance) (s : Live) → Named q i s → (n : ℕ) → AtPlace n (q ∷ ps) p → AtPlace n (infoOf (ranksAt e m whole ps i s) i s ∷ infosOf e m whole ps) y
+            → ((n : ℕ) → AtPlace n ps p → AtPlace n (infosOf e m whole ps) y → FromPair ps n p y) → FromPair (q ∷ ps) n p y
+        on i s k zero u v again = (i, s, subst (λ r. Named r i s) (sym u) k, v)
+        on i s k (suc n) u v again = again n u v
 
-      on : (i : Instance) (s : Live) → Named q i s → (n : ℕ) → AtPlace n (q ∷ ps) p → AtPlace n (infoOf (length ps) g a i s ∷ infosOf m g a ps) y
-          → ((n : ℕ) → AtPlace n ps p → AtPlace n (infosOf m g a ps) y → FromPair g a ps n p y) → FromPair g a (q ∷ ps) n p y
-      on i s k zero u v again = (length ps, i, s, subst (λ r. Named r i s) (sym u) k, v, omega arith)
-      on i s k (suc n) u v again = let x = again n u v in (x .0, x .1, x .2, x .3, x .4, one-more (x .0) n (length ps) (x .5))
-
-      go : (i : Instance) × (s : Live) × Named q i s → (n : ℕ) → AtPlace n (q ∷ ps) p → AtPlace n (first ++ infosOf m g a ps) y
-          → ((n : ℕ) → AtPlace n ps p → AtPlace n (infosOf m g a ps) y → FromPair g a ps n p y) → FromPair g a (q ∷ ps) n p y
-      go (i, s, k) n u v again = on i s k n u (subst (λ l. AtPlace n (l ++ infosOf m g a ps) y) (one-info (length ps) g a q i s k) v) again
+        go : (i : Instance) × (s : Live) × Named q i s → (n : ℕ) → AtPlace n (q ∷ ps) p → AtPlace n (first ++ infosOf e m whole ps) y
+            → ((n : ℕ) → AtPlace n ps p → AtPlace n (infosOf e m whole ps) y → FromPair ps n p y) → FromPair (q ∷ ps) n p y
+        go (i, s, k) n u v again = on i s k n u (subst (λ l. AtPlace n (l ++ infosOf e m whole ps) y) (one-info ps q i s k) v) again
 
 -- ---- the fields
 rank-is : (a b : ℕ) → rankFrom a b ≡ pos a -ℤ pos b
@@ -169,10 +166,10 @@ new-is a b = split (ltb a b)
     (λ e. rw e (λ h. let z : _≡_ {A = ℕ} 0 1 = cc in absurd (omega arith), λ h. absurd (omega (arith, ltb-false a b e))))
 
 module _ (m : Model) (once : (n : ℕ) → timesHeld n (m .instances) ≤ 1) where
-  shows-info : (p : Pair) (ps : List Pair) (place : ℕ) (r : Pair) (follow : ℕ) (i : Instance) (s : Live)
-      → allLive m (p ∷ ps) ≡ true → Named m r i s → follow + (place + 1) ≡ length (p ∷ ps)
-      → Shows m (p ∷ ps) place r (infoOf follow (lastTotal m (p ∷ ps)) (latestTotal (latest (lives (m .instances)))) i s)
-  shows-info p ps place r follow i s h k e =
+  shows-info : (p : Pair) (ps : List Pair) (place : ℕ) (r : Pair) (i : Instance) (s : Live) → allLive m (p ∷ ps) ≡ true → Named m r i s
+      → Shows m (p ∷ ps) place r (infoOf (ranksAt byTheRust m (p ∷ ps) (drop (suc place) (p ∷ ps)) i s) i s)
+  unfolding ranksAt
+  shows-info p ps place r i s h k =
       let l = last-is m p ps h in
       let t = is-latest m once (r .name) s (k .2 .0) in
       let f : length ps ≡ length (p ∷ ps) - 1 = omega arith in
@@ -188,7 +185,7 @@ module _ (m : Model) (once : (n : ℕ) → timesHeld n (m .instances) ≤ 1) whe
         sequence-number = refl;
         view-state = new-is (accessedOf (i .meta)) (accessedAt (totalOf (s .sample)));
         instance-state = refl;
-        sample-rank = omega arith;
+        sample-rank = rw (length-drop place ps) (omega arith);
         generation-rank = (l .0, l .1, subst (λ n. AtPlace n (p ∷ ps) (l .0)) f (l .2 .0), l .2 .1, ranked (l .2 .2));
         absolute-rank = (t .0, t .1, ranked (t .2));
       }
@@ -200,5 +197,5 @@ module _ (m : Model) (once : (n : ℕ) → timesHeld n (m .instances) ≤ 1) whe
       → AtPlace place ps p → AtPlace place (infosFor m ps) y → Shows m ps place p y
   infos-shown [] h place p y u v = absurd u
   infos-shown (q ∷ ps) h place p y u v =
-      let x = from-pair m (lastTotal m (q ∷ ps)) (latestTotal (latest (lives (m .instances)))) (q ∷ ps) h place p y u v in
-      subst (Shows m (q ∷ ps) place p) (sym (x .4)) (shows-info q ps place p (x .0) (x .1) (x .2) h (x .3) (x .5))
+      let x = from-pair m byTheRust (q ∷ ps) (q ∷ ps) h place p y u v in
+      subst (Shows m (q ∷ ps) place p) (sym (x .3)) (shows-info q ps place p (x .0) (x .1) h (x .2))

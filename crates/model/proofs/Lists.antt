@@ -13,10 +13,11 @@ use Rattle.sampleinfo.specs.Counts.{accessedAt}
 use Rattle.sampleinfo.specs.Lifecycle.{stateOf, countsOf, accessedOf}
 use Rattle.sampleinfo.specs.Samples.{totalOf}
 use Rattle.sampleinfo.specs.declared.Info.{Info}
+use Rattle.sampleinfo.specs.declared.Ranks.{Ranks}
 use Rattle.model.specs.Pairs.{Pair, repeats}
 use Rattle.model.specs.Views.{greater, viewed}
 use Rattle.model.specs.PairLaws.{among-in, repeats-distinct}
-use Rattle.model.specs.Model.{Model, Instance, Live, Place, gone, held, Step, refused, infos, list, refuse, find, liveIn, keyed, named, present, asRead, isLive, fine, infoAt, infosOf, infosFor, touch, listedIn, shown, accessed, listed, access, accessing, step}
+use Rattle.model.specs.Model.{Model, Instance, Live, Place, gone, held, Step, refused, infos, list, refuse, find, liveIn, keyed, named, present, asRead, isLive, fine, infoAt, infosOf, infosFor, touch, listedIn, shown, accessed, listed, access, accessing, step, Edition, ranksAt}
 use Rattle.model.specs.BadLaws.{allLive, fine-is-both, fine-live, fine-once}
 use Rattle.model.specs.Story.{Every, mapO, livesOf, liveAt}
 use Rattle.model.specs.Demand3.{In, LivePair, Sound, names, takes, remains, Greatest, Viewed, AtPlace, Lists, timesHeld}
@@ -70,22 +71,22 @@ module _ (m : Model) where
       back h = fine-is-both m ps ∙ rw (all-live ps .1 (h .0), repeats-distinct ps .1 (h .1))
 
   -- ---- as many infos as pairs
-  info-one : (f g a : ℕ) (p : Pair) → isLive m p ≡ true → length (infoAt f g a (find (p .name) (m .instances)) (named p (find (p .name) (m .instances)))) ≡ 1
-  info-one f g a p h = go (find (p .name) (m .instances)) h
+  info-one : (ranks : Instance → Live → Ranks) (p : Pair) → isLive m p ≡ true → length (infoAt ranks (find (p .name) (m .instances)) (named p (find (p .name) (m .instances)))) ≡ 1
+  info-one ranks p h = go (find (p .name) (m .instances)) h
     where
-      on : (i : Instance) (s : Option Live) → present s ≡ true → length (infoAt f g a (some i) s) ≡ 1
+      on : (i : Instance) (s : Option Live) → present s ≡ true → length (infoAt ranks (some i) s) ≡ 1
       on i none q = absurd (true≢false (sym q))
       on i (some s) q = refl
 
-      go : (o : Option Instance) → present (named p o) ≡ true → length (infoAt f g a o (named p o)) ≡ 1
+      go : (o : Option Instance) → present (named p o) ≡ true → length (infoAt ranks o (named p o)) ≡ 1
       go none q = absurd (true≢false (sym q))
       go (some i) q = on i (named p (some i)) q
 
-  infos-length : (g a : ℕ) (ps : List Pair) → allLive m ps ≡ true → length (infosOf m g a ps) ≡ length ps
+  infos-length : (e : Edition) (whole ps : List Pair) → allLive m ps ≡ true → length (infosOf e m whole ps) ≡ length ps
   unfolding infosOf allLive
-  infos-length g a [] h = refl
-  infos-length g a (p ∷ ps) h = let b : (isLive m p ≡ true) × (allLive m ps ≡ true) = both (isLive m p) (allLive m ps) h in
-      simp length-append (omega (arith, info-one (length ps) g a p (b .0), infos-length g a ps (b .1)))
+  infos-length e whole [] h = refl
+  infos-length e whole (p ∷ ps) h = let b : (isLive m p ≡ true) × (allLive m ps ≡ true) = both (isLive m p) (allLive m ps) h in
+      simp length-append (omega (arith, info-one (ranksAt e m whole ps) p (b .0), infos-length e whole ps (b .1)))
 
 -- ---- what stays of the live samples
 touch-live : (t : Bool) (n : ℕ) (ps : List Pair) (qs : List Place) → liveIn (map (touch t n ps) qs) ≡ remains t ps n (liveIn qs)

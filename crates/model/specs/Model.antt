@@ -17,6 +17,7 @@ use Rattle.sampleinfo.specs.declared.Body.{Body}
 use Rattle.sampleinfo.specs.declared.Body.the-variants.{Value, Dispose}
 use Rattle.sampleinfo.specs.declared.Sample.{Sample}
 use Rattle.sampleinfo.specs.declared.Info.{Info}
+use Rattle.sampleinfo.specs.declared.Ranks.{Ranks}
 use Rattle.readcondition.specs.Masks.{chosenBy, isValid}
 use Rattle.readcondition.specs.declared.ReadCondition.{ReadCondition}
 use Rattle.keys.specs.Keys.{keyOf}
@@ -368,33 +369,47 @@ lastTotal m [] = 0
 lastTotal m (p ∷ []) = instanceTotal (find (p .name) (m .instances))
 lastTotal m (p ∷ q ∷ qs) = lastTotal m (q ∷ qs)
 
--- an info, "with everything as before the call"; follow is how many places of the list come after this one
-abbrev pub infoOf : ℕ → ℕ → ℕ → Instance → Live → Info
-infoOf follow mrsic mrs i s = record {
+-- by which rules the ranks of a list are counted; edition 1 is the Rust's, which document 01 follows
+pub data Edition : Type 0 where
+  byTheRust : Edition
+
+-- the ranks of a place of the list `whole`: `behind` are the pairs after it, i and s the instance and the sample that its pair names
+-- "For place p of m: sample_rank is m-1-p; generation_rank is the latest total of the last pair's instance minus the sample's total;
+-- absolute_generation_rank is the total of the latest-keyed live sample of the whole cache minus the sample's. Both may be negative"
+unfoldable pub ranksAt : Edition → Model → List Pair → List Pair → Instance → Live → Ranks
+ranksAt byTheRust m whole behind i s = record {
+  «sample_rank» = length behind;
+  «generation_rank» = rankFrom (lastTotal m whole) (totalOf (s .sample));
+  «absolute_generation_rank» = rankFrom (latestTotal (latest (lives (m .instances)))) (totalOf (s .sample));
+}
+
+-- an info, "with everything as before the call"
+abbrev pub infoOf : Ranks → Instance → Live → Info
+infoOf r i s = record {
   body = s .sample .body;
   «sample_state» = sampleStateOf (s .sample);
   «view_state» = viewIn i s;
   «instance_state» = stateOf (i .meta);
   «generation_counts» = s .sample .«generation_counts»;
-  «sample_rank» = follow;
-  «generation_rank» = rankFrom mrsic (totalOf (s .sample));
-  «absolute_generation_rank» = rankFrom mrs (totalOf (s .sample));
+  «sample_rank» = r .«sample_rank»;
+  «generation_rank» = r .«generation_rank»;
+  «absolute_generation_rank» = r .«absolute_generation_rank»;
   «publication_handle» = s .sample .«writer_guid»;
   «sequence_number» = s .sample .«sequence_number»;
 }
 
-abbrev pub infoAt : ℕ → ℕ → ℕ → Option Instance → Option Live → List Info
-infoAt f g a none s = []
-infoAt f g a (some i) none = []
-infoAt f g a (some i) (some s) = infoOf f g a i s ∷ []
+abbrev pub infoAt : (Instance → Live → Ranks) → Option Instance → Option Live → List Info
+infoAt ranks none s = []
+infoAt ranks (some i) none = []
+infoAt ranks (some i) (some s) = infoOf (ranks i s) i s ∷ []
 
--- "For place p of m: sample_rank is m-1-p"
-unfoldable pub infosOf : Model → ℕ → ℕ → List Pair → List Info
-infosOf m g a [] = []
-infosOf m g a (p ∷ ps) = infoAt (length ps) g a (find (p .name) (m .instances)) (named p (find (p .name) (m .instances))) ++ infosOf m g a ps
+-- the infos of the pairs that are left of the list `whole`, place by place
+unfoldable pub infosOf : Edition → Model → List Pair → List Pair → List Info
+infosOf e m whole [] = []
+infosOf e m whole (p ∷ ps) = infoAt (ranksAt e m whole ps) (find (p .name) (m .instances)) (named p (find (p .name) (m .instances))) ++ infosOf e m whole ps
 
 abbrev pub infosFor : Model → List Pair → List Info
-infosFor m ps = infosOf m (lastTotal m ps) (latestTotal (latest (lives (m .instances)))) ps
+infosFor m ps = infosOf byTheRust m ps ps
 
 -- "Read marks samples Read; take removes them."
 abbrev pub asRead : Live → Live

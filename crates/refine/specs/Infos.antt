@@ -4,8 +4,8 @@ use mathlib.Core.Bool.{true, _&&_}
 use mathlib.Core.List.{List, [], _∷_, _++_}
 use Prim.Native.Nat.{ℕ}
 use lib.ListN.{length-map}
-use Rattle.model.specs.Pairs.{Pair, badFrom, firstBad}
-use Rattle.model.specs.Model.{Model, isLive, lastTotal, infosOf, infosFor}
+use Rattle.model.specs.Pairs.{Pair, badFrom, firstBad, repeats}
+use Rattle.model.specs.Model.{Model, isLive, lastTotal, infosOf, infosFor, fine, Edition, byTheRust, ranksAt}
 use Rattle.model.specs.BadLaws.{allLive}
 use Rattle.store.specs.Store.{placeOf, instAt, slotNamed, isHeld}
 use Rattle.refine.specs.Layout.{instOf, storeOf, tableOf}
@@ -13,7 +13,7 @@ use Rattle.refine.specs.Good.{Good}
 use Rattle.refine.specs.Named.{insts-of, inst-here, live-is}
 use Rattle.refine.specs.Latest.{latest-total}
 use Rattle.refine.specs.Fold.{and-true, Names, names-of, known-of}
-use Rattle.refine.specs.Lists.{slotsNamed, ownerAt, lastOwned, slotInfos, infosAt}
+use Rattle.refine.specs.Lists.{slotsNamed, ownerAt, lastOwned, slotInfos, infosAt, ranksOn}
 
 module _ (m : Model) (g : Good m) where
   owner-is : (p : Pair) (n : Names m p) → ownerAt (storeOf m) (slotNamed (storeOf m) p) ≡ instOf (m .keep) (n .i)
@@ -28,17 +28,24 @@ module _ (m : Model) (g : Good m) where
       rw (n .found, owner-is p n)
   last-is (p ∷ q ∷ ps) l = last-is (q ∷ ps) (and-true (isLive m p) (isLive m q && allLive m ps) l .1)
 
-  pub infos-are : (f a : ℕ) (ps : List Pair) → allLive m ps ≡ true → infosOf m f a ps ≡ slotInfos f a (storeOf m) (tableOf m) (slotsNamed (storeOf m) ps)
+  -- in each edition the ranks are the same on slots: the whole list is live, and what is left of it
+  pub ranks-are : (e : Edition) (whole behind : List Pair) → allLive m whole ≡ true → allLive m behind ≡ true → (p : Pair) (n : Names m p)
+      → ranksAt e m whole behind (n .i) (n .s) ≡ ranksOn e (storeOf m) (tableOf m) (slotsNamed (storeOf m) whole) (slotsNamed (storeOf m) behind) (slotNamed (storeOf m) p)
+  unfolding ranksAt ranksOn
+  ranks-are byTheRust whole behind w b p n = rw (last-is whole w, ← (latest-total m g), known-of m g p n .slot, known-of m g p n .sample, length-map behind (slotNamed (storeOf m)))
+
+  pub infos-are : (e : Edition) (whole ps : List Pair) → allLive m whole ≡ true → allLive m ps ≡ true
+      → infosOf e m whole ps ≡ slotInfos e (storeOf m) (tableOf m) (slotsNamed (storeOf m) whole) (slotsNamed (storeOf m) ps)
   unfolding infosOf slotInfos allLive
-  infos-are f a [] l = refl
-  infos-are f a (p ∷ ps) l =
+  infos-are e whole [] w l = refl
+  infos-are e whole (p ∷ ps) w l =
       let b : (isLive m p ≡ true) × (allLive m ps ≡ true) = and-true (isLive m p) (allLive m ps) l in
       let n : Names m p = names-of m p (b .0) in
-      rw (n .found, n .held-by, infos-are f a ps (b .1), owner-is p n, known-of m g p n .slot, known-of m g p n .sample, length-map ps (slotNamed (storeOf m)))
+      rw (n .found, n .held-by, infos-are e whole ps w (b .1), ranks-are e whole ps w (b .1) p n, owner-is p n, known-of m g p n .slot, known-of m g p n .sample)
 
   -- the infos of a call are made of the slots' records and their owners
   pub infos-is : (ps : List Pair) → allLive m ps ≡ true → infosFor m ps ≡ infosAt (storeOf m) (tableOf m) (slotsNamed (storeOf m) ps)
-  infos-is ps l = rw (last-is ps l, ← (latest-total m g)) (infos-are _ _ ps l)
+  infos-is ps l = infos-are byTheRust ps ps l l
 
   bad-from-is : (before ps : List Pair) → badFrom (isLive m) before ps ≡ badFrom (isHeld (storeOf m)) before ps
   unfolding badFrom

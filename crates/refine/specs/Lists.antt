@@ -9,8 +9,10 @@ use Rattle.sampleinfo.specs.Lifecycle.{stateOf, countsOf, accessedOf}
 use Rattle.sampleinfo.specs.Samples.{emptySample, markedRead, sampleStateOf, totalOf}
 use Rattle.sampleinfo.specs.declared.Sample.{Sample}
 use Rattle.sampleinfo.specs.declared.Info.{Info}
+use Rattle.sampleinfo.specs.declared.Ranks.{Ranks}
 use Rattle.model.specs.Pairs.{Pair}
 use Rattle.model.specs.Views.{viewOf, rankFrom}
+use Rattle.model.specs.Model.{Edition, byTheRust}
 use Rattle.store.specs.Store.{Inst, Store, instAt, slotNamed, freed, accessedIn, latestSlot}
 
 -- the slots that a list names
@@ -43,16 +45,16 @@ viewedRows (suc n) f s = let r : Store = viewedRows n f s in cond (eqb (f n) 0) 
 
 -- ---- the infos: "with everything as before the call"
 
-abbrev pub infoWith : ℕ → ℕ → ℕ → Inst → Sample → Info
-infoWith follow mrsic mrs i x = record {
+abbrev pub infoWith : Ranks → Inst → Sample → Info
+infoWith r i x = record {
   body = x .body;
   «sample_state» = sampleStateOf x;
   «view_state» = viewOf (accessedOf (i .meta)) (totalOf x);
   «instance_state» = stateOf (i .meta);
   «generation_counts» = x .«generation_counts»;
-  «sample_rank» = follow;
-  «generation_rank» = rankFrom mrsic (totalOf x);
-  «absolute_generation_rank» = rankFrom mrs (totalOf x);
+  «sample_rank» = r .«sample_rank»;
+  «generation_rank» = r .«generation_rank»;
+  «absolute_generation_rank» = r .«absolute_generation_rank»;
   «publication_handle» = x .«writer_guid»;
   «sequence_number» = x .«sequence_number»;
 }
@@ -67,10 +69,20 @@ lastOwned s [] = 0
 lastOwned s (k ∷ []) = total (countsOf (ownerAt s k .meta))
 lastOwned s (k ∷ l ∷ ks) = lastOwned s (l ∷ ks)
 
--- "For place p of m: sample_rank is m-1-p"
-unfoldable pub slotInfos : ℕ → ℕ → Store → List Sample → List ℕ → List Info
-slotInfos mrsic mrs s t [] = []
-slotInfos mrsic mrs s t (k ∷ ks) = infoWith (length ks) mrsic mrs (ownerAt s k) (getD t k emptySample) ∷ slotInfos mrsic mrs s t ks
+-- the ranks of a place of the list `whole`: `behind` are the slots after it, k is its own
+-- "sample_rank is m-1-p; generation_rank is the latest total of the last pair's instance minus the sample's total;
+-- absolute_generation_rank is the total of the latest-keyed live sample of the whole cache minus the sample's"
+unfoldable pub ranksOn : Edition → Store → List Sample → List ℕ → List ℕ → ℕ → Ranks
+ranksOn byTheRust s t whole behind k = record {
+  «sample_rank» = length behind;
+  «generation_rank» = rankFrom (lastOwned s whole) (totalOf (getD t k emptySample));
+  «absolute_generation_rank» = rankFrom (totalOf (getD t (latestSlot s) emptySample)) (totalOf (getD t k emptySample));
+}
+
+-- the infos of the slots that are left of the list `whole`, place by place
+unfoldable pub slotInfos : Edition → Store → List Sample → List ℕ → List ℕ → List Info
+slotInfos e s t whole [] = []
+slotInfos e s t whole (k ∷ ks) = infoWith (ranksOn e s t whole ks k) (ownerAt s k) (getD t k emptySample) ∷ slotInfos e s t whole ks
 
 abbrev pub infosAt : Store → List Sample → List ℕ → List Info
-infosAt s t ks = slotInfos (lastOwned s ks) (totalOf (getD t (latestSlot s) emptySample)) s t ks
+infosAt s t ks = slotInfos byTheRust s t ks ks

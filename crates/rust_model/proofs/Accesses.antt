@@ -20,7 +20,7 @@ use Rattle.sampleinfo.specs.declared.Sample.{Sample}
 use Rattle.model.specs.Pairs.{Pair, repeats}
 use Rattle.model.specs.PairLaws.{pair-is, repeats-distinct}
 use Rattle.model.specs.Views.{rankFrom, viewed}
-use Rattle.model.specs.Model.{Model, Live, Instance, find, nextName, liveIn, lives, keyed, named, present, isLive, fine, latest, latestTotal, lastTotal, viewIn, infoOf, infoAt, infosOf, infosFor, shown, touch, listed, access}
+use Rattle.model.specs.Model.{Model, Live, Instance, find, nextName, liveIn, lives, keyed, named, present, isLive, fine, latest, latestTotal, lastTotal, viewIn, infoOf, infoAt, infosOf, infosFor, shown, touch, listed, access, Edition, byTheRust, ranksAt}
 use Rattle.model.specs.BadLaws.{allLive, fine-live, fine-once}
 use Rattle.model.specs.Story.{Entry as Told, Every, AtMost, mapO, untaken, entryKeys, touchEntry}
 use Rattle.model.specs.Demand3.{In, Distinct, timesHeld}
@@ -120,9 +120,14 @@ module _ (m : Model) (c : DataSampleCache) (log : List Kept) (h : Alike m c log)
   keys-apart [] f d = tt
   keys-apart (p ∷ ps) f d = (apart-from (samples log) p (f .0 .live .sample) ps (f .0 .is-got) (every-imp (λ q x. (x .live .sample, x .is-got)) ps (f .1)) (d .0), keys-apart ps (f .1) (d .1))
 
-  -- one info
-  info-same : (p : Pair) (f : Facts p) (rank mrs mrsic : ℕ) → «make_sample_info» (record { key = p .name; sample = f .live .sample }) (f .own .there) rank mrs mrsic ≡ infoOf rank mrsic mrs (f .own .here) (f .live)
-  info-same p f rank mrs mrsic = ap (λ (v : ViewState). at v (f .own .there .«instance_state»)) (view-same (m .keep) (mine (p .name) log) (f .own .here) (f .own .there) (f .own .matches) (f .live .sample))
+  -- one info of the list `whole`, with the ranks of edition 1
+  abbrev mrs : ℕ
+  mrs = latestTotal (latest (lives (m .instances)))
+
+  info-same : (p : Pair) (f : Facts p) (whole ps : List Pair) → «make_sample_info» (record { key = p .name; sample = f .live .sample }) (f .own .there) (length ps) mrs (lastTotal m whole)
+      ≡ infoOf (ranksAt byTheRust m whole ps (f .own .here) (f .live)) (f .own .here) (f .live)
+  unfolding ranksAt
+  info-same p f whole ps = ap (λ (v : ViewState). at v (f .own .there .«instance_state»)) (view-same (m .keep) (mine (p .name) log) (f .own .here) (f .own .there) (f .own .matches) (f .live .sample))
       ∙ ap (at (viewIn (f .own .here) (f .live))) (f .own .matches .state)
     where
       at : ViewState → InstanceState → Info
@@ -132,32 +137,33 @@ module _ (m : Model) (c : DataSampleCache) (log : List Kept) (h : Alike m c log)
         «view_state» = v;
         «instance_state» = s;
         «generation_counts» = f .live .sample .«generation_counts»;
-        «sample_rank» = rank;
-        «generation_rank» = rankFrom mrsic (totalOf (f .live .sample));
+        «sample_rank» = length ps;
+        «generation_rank» = rankFrom (lastTotal m whole) (totalOf (f .live .sample));
         «absolute_generation_rank» = rankFrom mrs (totalOf (f .live .sample));
         «publication_handle» = f .live .sample .«writer_guid»;
         «sequence_number» = f .live .sample .«sequence_number»;
       }
 
-  infos-cons : (p : Pair) (f : Facts p) (g a : ℕ) (ps : List Pair) → infosOf m g a (p ∷ ps) ≡ infoOf (length ps) g a (f .own .here) (f .live) ∷ infosOf m g a ps
+  infos-cons : (p : Pair) (f : Facts p) (e : Edition) (whole ps : List Pair)
+      → infosOf e m whole (p ∷ ps) ≡ infoOf (ranksAt e m whole ps (f .own .here) (f .live)) (f .own .here) (f .live) ∷ infosOf e m whole ps
   unfolding infosOf
-  infos-cons p f g a ps = rw (f .own .is-here) (ap (λ (o : Option Live). infoAt (length ps) g a (some (f .own .here)) o ++ infosOf m g a ps) (ap (keyed (p .key)) (live-is m c log h (p .name) (f .own .here) (f .own .is-here)) ∙ f .is-named))
+  infos-cons p f e whole ps = rw (f .own .is-here) (ap (λ (o : Option Live). infoAt (ranksAt e m whole ps) (some (f .own .here)) o ++ infosOf e m whole ps) (ap (keyed (p .key)) (live-is m c log h (p .name) (f .own .here) (f .own .is-here)) ∙ f .is-named))
 
-  pass-is : (t : Bool) (mrs mrsic : ℕ) (now : List Kept) (gens : Generations) (ps : List Pair) → Every Facts ps → KeysApart ps
+  pass-is : (t : Bool) (whole : List Pair) (now : List Kept) (gens : Generations) (ps : List Pair) → Every Facts ps → KeysApart ps
       → Every (λ p. get (p .key) (samples now) ≡ get (p .key) (samples log)) ps → Every (λ p. Every (Owns p) now) ps
-      → pass t (c .«instance_map») mrs mrsic (samples now) gens ps ≡ gives (record { infos = infosOf m mrsic mrs ps; datasamples = samples (touched t ps now); generations = gensAfter (samples log) gens ps })
+      → pass t (c .«instance_map») mrs (lastTotal m whole) (samples now) gens ps ≡ gives (record { infos = infosOf byTheRust m whole ps; datasamples = samples (touched t ps now); generations = gensAfter (samples log) gens ps })
   unfolding pass gensAfter
-  pass-is t mrs mrsic now gens [] f d g o = unfold infosOf in (ap (λ (l : List Kept). gives (record { infos = []; datasamples = samples l; generations = gens })) (sym (touched-none t now)))
-  pass-is t mrs mrsic now gens (p ∷ ps) f d g o =
+  pass-is t whole now gens [] f d g o = unfold infosOf in (ap (λ (l : List Kept). gives (record { infos = []; datasamples = samples l; generations = gens })) (sym (touched-none t now)))
+  pass-is t whole now gens (p ∷ ps) f d g o =
       rw (
         g .0 ∙ f .0 .is-got,
         f .0 .own .is-there,
         samples-touched t p now (o .0),
         f .0 .is-got,
-        pass-is t mrs mrsic (touched t (p ∷ []) now) («record_instance_generation_viewed» gens (f .0 .live .sample .«generation_counts») (p .name)) ps (f .1) (d .1) (others ps (d .0) (g .1)) (every-imp (λ q x. owns-touched q t (p ∷ []) now x) ps (o .1)),
+        pass-is t whole (touched t (p ∷ []) now) («record_instance_generation_viewed» gens (f .0 .live .sample .«generation_counts») (p .name)) ps (f .1) (d .1) (others ps (d .0) (g .1)) (every-imp (λ q x. owns-touched q t (p ∷ []) now x) ps (o .1)),
       )
-      (ap (λ (l : List Kept). at («make_sample_info» (record { key = p .name; sample = f .0 .live .sample }) (f .0 .own .there) (length ps) mrs mrsic ∷ infosOf m mrsic mrs ps) l) (touched-twice t p ps now)
-      ∙ ap (λ (l : List Info). at l (touched t (p ∷ ps) now)) (ap (λ (x : Info). x ∷ infosOf m mrsic mrs ps) (info-same p (f .0) (length ps) mrs mrsic) ∙ sym (infos-cons p (f .0) mrsic mrs ps)))
+      (ap (λ (l : List Kept). at («make_sample_info» (record { key = p .name; sample = f .0 .live .sample }) (f .0 .own .there) (length ps) mrs (lastTotal m whole) ∷ infosOf byTheRust m whole ps) l) (touched-twice t p ps now)
+      ∙ ap (λ (l : List Info). at l (touched t (p ∷ ps) now)) (ap (λ (x : Info). x ∷ infosOf byTheRust m whole ps) (info-same p (f .0) whole ps) ∙ sym (infos-cons p (f .0) byTheRust whole ps)))
     where
       at : List Info → List Kept → Outcome Pass
       at l x = gives (record { infos = l; datasamples = samples x; generations = gensAfter (samples log) («record_instance_generation_viewed» gens (f .0 .live .sample .«generation_counts») (p .name)) ps })
@@ -187,7 +193,7 @@ module _ (m : Model) (c : DataSampleCache) (log : List Kept) (h : Alike m c log)
     latest-is = latest-gather log (m .instances) (every-imp (λ i f. live-is m c log h (i .name) i f) (m .instances) (own-found (m .instances) once)) ∙ gather-all over over-swap none log (h .rises) (m .instances) once
         ∙ sym (fold-ext over (λ n. true) (λ n. known (find n (m .instances))) none log (every-imp (λ k b. ap known (sym (b .is-here))) log (every-both m c log h)))
 
-    mrs-is : (e : Entry SampleWithMetaData) → lastEntry (samples log) ≡ some e → total (e .item .sample .«generation_counts») ≡ latestTotal (latest (lives (m .instances)))
+    mrs-is : (e : Entry SampleWithMetaData) → lastEntry (samples log) ≡ some e → total (e .item .sample .«generation_counts») ≡ mrs
     mrs-is e q = go (latest (lives (m .instances))) (rw (← latest-is, q) at (latest-last log (h .rises)))
       where
         go : (o : Option Live) → SameLast o (some e) → total (e .item .sample .«generation_counts») ≡ latestTotal o
@@ -269,7 +275,7 @@ module _ (m : Model) (c : DataSampleCache) (log : List Kept) (h : Alike m c log)
   }
   by-keys once t (p ∷ ps) e = record {
     cache = now;
-    gives-infos = ap (λ (d : DataSamples). from d) (h .holds) ∙ rw (mrsic .1, mrs .1, mrsic .2, mrs-is once (mrs .0) (mrs .1), pass-is t latest-total last-total log [] (p ∷ ps) fs apart (same (p ∷ ps)) (owned (p ∷ ps) fs), mark-is gens (c .«instance_map») held);
+    gives-infos = ap (λ (d : DataSamples). from d) (h .holds) ∙ rw (mrsic .1, newest .1, mrsic .2, mrs-is once (newest .0) (newest .1), pass-is t (p ∷ ps) log [] (p ∷ ps) fs apart (same (p ∷ ps)) (owned (p ∷ ps) fs), mark-is gens (c .«instance_map») held);
     stays-alike = alike-listed t (p ∷ ps) now gens (h .keeps) refl refl (λ n. gens-shown (samples log) log (h .rises) n [] (p ∷ ps) (every-imp (λ q f. (f .live, f .is-named, f .is-got)) (p ∷ ps) fs) apart ∙ unfold get in refl);
   }
     where
@@ -282,17 +288,11 @@ module _ (m : Model) (c : DataSampleCache) (log : List Kept) (h : Alike m c log)
       gens : Generations
       gens = gensAfter (samples log) [] (p ∷ ps)
 
-      last-total : ℕ
-      last-total = lastTotal m (p ∷ ps)
-
-      latest-total : ℕ
-      latest-total = latestTotal (latest (lives (m .instances)))
-
-      mrsic : (d : InstanceMetaData) × (get (lastOf p ps .name) (c .«instance_map») ≡ some d) × (total (d .«latest_generation_available») ≡ last-total)
+      mrsic : (d : InstanceMetaData) × (get (lastOf p ps .name) (c .«instance_map») ≡ some d) × (total (d .«latest_generation_available») ≡ lastTotal m (p ∷ ps))
       mrsic = mrsic-is p ps (fs .0) (fs .1)
 
-      mrs : (x : Entry SampleWithMetaData) × (lastEntry (samples log) ≡ some x)
-      mrs = last-some (p .key) (samples log) _ (fs .0 .is-got)
+      newest : (x : Entry SampleWithMetaData) × (lastEntry (samples log) ≡ some x)
+      newest = last-some (p .key) (samples log) _ (fs .0 .is-got)
 
       held : Every (λ g. Held (c .«instance_map») (g .at)) gens
       held = gens-held (samples log) (c .«instance_map») [] (p ∷ ps) (every-imp (λ q f. (f .own .there, f .own .is-there)) (p ∷ ps) fs) tt

@@ -22,7 +22,7 @@ arrives n t = add (record { name = n; writer = replicate 16 0; seq = 1; time = t
 
 -- two adds, a take of the first, an add later than every key, and one at an earlier time while the last key, 300, is live
 pub ground-has-members : Ground (fresh (some 2) 4) [] (arrives 7 100 ∷ arrives 7 200 ∷ list true (record { key = 100; name = 7 } ∷ []) 256 ∷ arrives 9 300 ∷ arrives 7 50 ∷ [])
-unfolding M.answers M.step M.adding M.accept M.oldOf M.wellFormed M.arrived M.roomy M.slotOf M.refusalOf M.find M.put M.nextName M.liveIn M.lives M.count M.lowestFrom M.push M.pushedOut M.window M.hitsIn M.hits M.choosing M.keyed M.latest M.lastTotal M.infosOf M.shown M.access M.accessing P.among P.badFrom P.insert P.sorted Mk.chosenBy Mk.isValid K.keyOf run trace keysFrom
+unfolding M.answers M.step M.adding M.accept M.oldOf M.wellFormed M.arrived M.roomy M.slotOf M.refusalOf M.find M.put M.nextName M.liveIn M.lives M.count M.lowestFrom M.push M.pushedOut M.window M.hitsIn M.hits M.choosing M.keyed M.latest M.lastTotal M.ranksAt M.infosOf M.shown M.access M.accessing P.among P.badFrom P.insert P.sorted Mk.chosenBy Mk.isValid K.keyOf run trace keysFrom
 ground-has-members = (
   inl tt,
   refl,

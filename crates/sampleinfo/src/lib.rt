@@ -63,6 +63,13 @@ pub enum Stepped {
     Refused,
 }
 
+// The ranks that an info shows of its place in a list.
+pub struct Ranks {
+    pub sample_rank: u64,
+    pub generation_rank: i64,
+    pub absolute_generation_rank: i64,
+}
+
 // SampleInfo: the printed fields, the writer and the sequence number.
 pub struct Info {
     pub body: Body,

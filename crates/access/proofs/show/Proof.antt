@@ -10,6 +10,9 @@ owner-at-requires c κs = search needs
 meta-at-requires : tie.Need-meta-at-requires
 meta-at-requires c κs = search needs
 
+of-place-requires : tie.Need-of-place-requires
+of-place-requires c κs = search needs
+
 make-sample-info-requires : tie.Need-make-sample-info-requires
 make-sample-info-requires c κs = search needs
 
@@ -34,6 +37,7 @@ show-spec =
     (tie.spec
     owner-at-requires
     meta-at-requires
+    of-place-requires
     make-sample-info-requires
     put-info-requires
     accessed-requires

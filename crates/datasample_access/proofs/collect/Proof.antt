@@ -11,10 +11,10 @@ use Rattle.datasample_access.proofs.collect.Statement.{statement}
 use Rattle.datasample_access.proofs.collect.Proof.Tie as tie
 
 abbrev Inv-loop : tie.InvT-loop
-Inv-loop t ws slots n mrs mrsic out₀ seen₀ p₀ out seen p = (p ≤ n) × (putInfos out p (infosBy ws t mrs mrsic (run (n - p) p slots)) ≡ putInfos out₀ 0 (infosBy ws t mrs mrsic (run n 0 slots))) × (notedAll ws t seen (run (n - p) p slots) ≡ notedAll ws t seen₀ (run n 0 slots)) × (length out ≡ length out₀)
+Inv-loop t ws slots n ranking out₀ seen₀ p₀ out seen p = (p ≤ n) × (putInfos out p (infosBy ws t ranking (run (n - p) p slots)) ≡ putInfos out₀ 0 (infosBy ws t ranking (run n 0 slots))) × (notedAll ws t seen (run (n - p) p slots) ≡ notedAll ws t seen₀ (run n 0 slots)) × (length out ≡ length out₀)
 
 abbrev μ-loop : tie.MeasureT-loop
-μ-loop t ws slots n mrs mrsic out₀ seen₀ p₀ out seen p = n - p
+μ-loop t ws slots n ranking out₀ seen₀ p₀ out seen p = n - p
 
 loop-holds : tie.Need-loop-holds Inv-loop μ-loop
 loop-holds c = search (needs, put-start, note-start)

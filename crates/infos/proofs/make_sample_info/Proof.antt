@@ -9,16 +9,10 @@ sample-state-requires c κs = search needs
 view-state-requires : tie.Need-view-state-requires
 view-state-requires c κs = search needs
 
-rank-requires : tie.Need-rank-requires
-rank-requires c κs = search needs
-
-rank-requires-2 : tie.Need-rank-requires-2
-rank-requires-2 c κs = search needs
-
 returns : tie.Need-returns
 returns c = search (needs, made)
 
 pub make-sample-info-spec : {M : Type 1} → statement M
 make-sample-info-spec =
     tie.close
-    (tie.spec sample-state-requires view-state-requires rank-requires rank-requires-2 returns)
+    (tie.spec sample-state-requires view-state-requires returns)

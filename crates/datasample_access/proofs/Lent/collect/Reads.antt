@@ -44,70 +44,65 @@ module _ (κs : Lifetimes.Lfts 5) where
 
   abbrev pub ensures-1·read : (a : World.ArgsD collect.signature κs) → (g : Ghost) → (r : World.ResD collect.signature κs) → (s : Clauses.AtExit (Kinds'.endedOf 5 Kinds.ps Kinds.r) κs) →
       Read.Read (Base a) (Owned r s) λ w. collect.ensures-1 (w .𝓤) (w .H) κs (w .𝓖 .A) (w .𝓜 .mem) (w .𝓡 .run) (a .0) (a .1 .0) (a .1 .1 .0) (a .1 .1 .1 .0) (a .1 .1 .1 .1 .0) (a .1 .1 .1
-      .1 .1 .0) (a .1 .1 .1 .1 .1 .1 .0) (a .1 .1 .1 .1 .1 .1 .1 .0) record { entry = a .0; exit = s .0 } record { entry = a .1 .0; exit = s .1 .0 } record {
-        entry = a .1 .1 .0;
-        exit = s .1
-            .1 .0;
-      } record { entry = a .1 .1 .1 .0; exit = s .1 .1 .1 .0 } record { entry = a .1 .1 .1 .1 .0; exit = s .1 .1 .1 .1 .0 } record {
-        entry = a .1 .1 .1 .1 .1 .0;
-        exit = s .1 .1 .1 .1
-            .1 .0;
-      } record { entry = a .1 .1 .1 .1 .1 .1 .0; exit = s .1 .1 .1 .1 .1 .1 .0 } record { entry = a .1 .1 .1 .1 .1 .1 .1 .0; exit = s .1 .1 .1 .1 .1 .1 .1 .0 } r
+      .1 .1 .0) (a .1 .1 .1 .1 .1 .1 .0) record { entry = a .0; exit = s .0 } record { entry = a .1 .0; exit = s .1 .0 } record { entry = a .1 .1 .0; exit = s .1 .1 .0 } record {
+        entry = a
+            .1 .1 .1 .0;
+        exit = s .1 .1 .1 .0;
+      } record { entry = a .1 .1 .1 .1 .0; exit = s .1 .1 .1 .1 .0 } record { entry = a .1 .1 .1 .1 .1 .0; exit = s .1 .1 .1 .1 .1 .0 } record {
+        entry = a
+            .1 .1 .1 .1 .1 .1 .0;
+        exit = s .1 .1 .1 .1 .1 .1 .0;
+      } r
   ensures-1·read = λ a g r s. Read.all-models (λ w. collect.ensures-1 (w .𝓤) (w .H) κs (w .𝓖 .A) (w .𝓜 .mem) (w .𝓡 .run) (a .0) (a .1 .0) (a .1 .1 .0) (a .1 .1 .1 .0) (a .1 .1 .1 .1 .0) (a
-      .1 .1 .1 .1 .1 .0) (a .1 .1 .1 .1 .1 .1 .0) (a .1 .1 .1 .1 .1 .1 .1 .0) record { entry = a .0; exit = s .0 } record { entry = a .1 .0; exit = s .1 .0 } record {
-        entry = a .1 .1 .0;
-        exit = s .1 .1 .0;
-      } record { entry = a .1 .1 .1 .0; exit = s .1 .1 .1 .0 } record { entry = a .1 .1 .1 .1 .0; exit = s .1 .1 .1 .1 .0 } record {
-        entry = a .1 .1 .1 .1 .1 .0;
-        exit = s
-            .1 .1 .1 .1 .1 .0;
-      } record { entry = a .1 .1 .1 .1 .1 .1 .0; exit = s .1 .1 .1 .1 .1 .1 .0 } record { entry = a .1 .1 .1 .1 .1 .1 .1 .0; exit = s .1 .1 .1 .1 .1 .1 .1 .0 } r) (λ w.
-      search Read.reads) (λ w. refl) (λ w. refl) λ w. refl
+      .1 .1 .1 .1 .1 .0) (a .1 .1 .1 .1 .1 .1 .0) record { entry = a .0; exit = s .0 } record { entry = a .1 .0; exit = s .1 .0 } record { entry = a .1 .1 .0; exit = s .1 .1 .0 } record {
+        entry = a .1 .1 .1 .0;
+        exit = s .1 .1 .1 .0;
+      } record { entry = a .1 .1 .1 .1 .0; exit = s .1 .1 .1 .1 .0 } record { entry = a .1 .1 .1 .1 .1 .0; exit = s .1 .1 .1 .1 .1 .0 } record {
+        entry = a .1 .1 .1 .1 .1 .1 .0;
+        exit = s .1 .1 .1 .1 .1 .1 .0;
+      } r) (λ w. search Read.reads) (λ w. refl) (λ w. refl) λ w. refl
 
   abbrev pub ensures-2·read : (a : World.ArgsD collect.signature κs) → (g : Ghost) → (r : World.ResD collect.signature κs) → (s : Clauses.AtExit (Kinds'.endedOf 5 Kinds.ps Kinds.r) κs) →
       Read.Read (Base a) (Owned r s) λ w. collect.ensures-2 (w .𝓤) (w .H) κs (w .𝓖 .A) (w .𝓜 .mem) (w .𝓡 .run) (a .0) (a .1 .0) (a .1 .1 .0) (a .1 .1 .1 .0) (a .1 .1 .1 .1 .0) (a .1 .1 .1
-      .1 .1 .0) (a .1 .1 .1 .1 .1 .1 .0) (a .1 .1 .1 .1 .1 .1 .1 .0) record { entry = a .0; exit = s .0 } record { entry = a .1 .0; exit = s .1 .0 } record {
-        entry = a .1 .1 .0;
-        exit = s .1
-            .1 .0;
-      } record { entry = a .1 .1 .1 .0; exit = s .1 .1 .1 .0 } record { entry = a .1 .1 .1 .1 .0; exit = s .1 .1 .1 .1 .0 } record {
-        entry = a .1 .1 .1 .1 .1 .0;
-        exit = s .1 .1 .1 .1
-            .1 .0;
-      } record { entry = a .1 .1 .1 .1 .1 .1 .0; exit = s .1 .1 .1 .1 .1 .1 .0 } record { entry = a .1 .1 .1 .1 .1 .1 .1 .0; exit = s .1 .1 .1 .1 .1 .1 .1 .0 } r
+      .1 .1 .0) (a .1 .1 .1 .1 .1 .1 .0) record { entry = a .0; exit = s .0 } record { entry = a .1 .0; exit = s .1 .0 } record { entry = a .1 .1 .0; exit = s .1 .1 .0 } record {
+        entry = a
+            .1 .1 .1 .0;
+        exit = s .1 .1 .1 .0;
+      } record { entry = a .1 .1 .1 .1 .0; exit = s .1 .1 .1 .1 .0 } record { entry = a .1 .1 .1 .1 .1 .0; exit = s .1 .1 .1 .1 .1 .0 } record {
+        entry = a
+            .1 .1 .1 .1 .1 .1 .0;
+        exit = s .1 .1 .1 .1 .1 .1 .0;
+      } r
   ensures-2·read = λ a g r s. Read.all-models (λ w. collect.ensures-2 (w .𝓤) (w .H) κs (w .𝓖 .A) (w .𝓜 .mem) (w .𝓡 .run) (a .0) (a .1 .0) (a .1 .1 .0) (a .1 .1 .1 .0) (a .1 .1 .1 .1 .0) (a
-      .1 .1 .1 .1 .1 .0) (a .1 .1 .1 .1 .1 .1 .0) (a .1 .1 .1 .1 .1 .1 .1 .0) record { entry = a .0; exit = s .0 } record { entry = a .1 .0; exit = s .1 .0 } record {
-        entry = a .1 .1 .0;
-        exit = s .1 .1 .0;
-      } record { entry = a .1 .1 .1 .0; exit = s .1 .1 .1 .0 } record { entry = a .1 .1 .1 .1 .0; exit = s .1 .1 .1 .1 .0 } record {
-        entry = a .1 .1 .1 .1 .1 .0;
-        exit = s
-            .1 .1 .1 .1 .1 .0;
-      } record { entry = a .1 .1 .1 .1 .1 .1 .0; exit = s .1 .1 .1 .1 .1 .1 .0 } record { entry = a .1 .1 .1 .1 .1 .1 .1 .0; exit = s .1 .1 .1 .1 .1 .1 .1 .0 } r) (λ w.
-      search Read.reads) (λ w. refl) (λ w. refl) λ w. refl
+      .1 .1 .1 .1 .1 .0) (a .1 .1 .1 .1 .1 .1 .0) record { entry = a .0; exit = s .0 } record { entry = a .1 .0; exit = s .1 .0 } record { entry = a .1 .1 .0; exit = s .1 .1 .0 } record {
+        entry = a .1 .1 .1 .0;
+        exit = s .1 .1 .1 .0;
+      } record { entry = a .1 .1 .1 .1 .0; exit = s .1 .1 .1 .1 .0 } record { entry = a .1 .1 .1 .1 .1 .0; exit = s .1 .1 .1 .1 .1 .0 } record {
+        entry = a .1 .1 .1 .1 .1 .1 .0;
+        exit = s .1 .1 .1 .1 .1 .1 .0;
+      } r) (λ w. search Read.reads) (λ w. refl) (λ w. refl) λ w. refl
 
   abbrev pub post-read : (a : World.ArgsD collect.signature κs) → (g : Ghost) → (r : World.ResD collect.signature κs) → (s : Clauses.AtExit (Kinds'.endedOf 5 Kinds.ps Kinds.r) κs) →
       Read.Read (Base a) (Owned r s) (ensures a g r s)
   post-read = λ a g r s. Read.read-join (λ w. collect.ensures-1 (w .𝓤) (w .H) κs (w .𝓖 .A) (w .𝓜 .mem) (w .𝓡 .run) (a .0) (a .1 .0) (a .1 .1 .0) (a .1 .1 .1 .0) (a .1 .1 .1 .1 .0) (a .1 .1
-      .1 .1 .1 .0) (a .1 .1 .1 .1 .1 .1 .0) (a .1 .1 .1 .1 .1 .1 .1 .0) record { entry = a .0; exit = s .0 } record { entry = a .1 .0; exit = s .1 .0 } record {
-        entry = a .1 .1 .0;
-        exit = s
-            .1 .1 .0;
-      } record { entry = a .1 .1 .1 .0; exit = s .1 .1 .1 .0 } record { entry = a .1 .1 .1 .1 .0; exit = s .1 .1 .1 .1 .0 } record {
-        entry = a .1 .1 .1 .1 .1 .0;
-        exit = s .1 .1 .1
-            .1 .1 .0;
-      } record { entry = a .1 .1 .1 .1 .1 .1 .0; exit = s .1 .1 .1 .1 .1 .1 .0 } record { entry = a .1 .1 .1 .1 .1 .1 .1 .0; exit = s .1 .1 .1 .1 .1 .1 .1 .0 } r) (λ w.
-      collect.ensures-2 (w .𝓤) (w .H) κs (w .𝓖 .A) (w .𝓜 .mem) (w .𝓡 .run) (a .0) (a .1 .0) (a .1 .1 .0) (a .1 .1 .1 .0) (a .1 .1 .1 .1 .0) (a .1 .1 .1 .1 .1 .0) (a .1 .1 .1 .1 .1 .1 .0) (a
-      .1 .1 .1 .1 .1 .1 .1 .0) record { entry = a .0; exit = s .0 } record { entry = a .1 .0; exit = s .1 .0 } record { entry = a .1 .1 .0; exit = s .1 .1 .0 } record {
-        entry = a .1 .1 .1
-            .0;
+      .1 .1 .1 .0) (a .1 .1 .1 .1 .1 .1 .0) record { entry = a .0; exit = s .0 } record { entry = a .1 .0; exit = s .1 .0 } record { entry = a .1 .1 .0; exit = s .1 .1 .0 } record {
+        entry =
+            a .1 .1 .1 .0;
         exit = s .1 .1 .1 .0;
       } record { entry = a .1 .1 .1 .1 .0; exit = s .1 .1 .1 .1 .0 } record { entry = a .1 .1 .1 .1 .1 .0; exit = s .1 .1 .1 .1 .1 .0 } record {
-        entry = a .1 .1 .1
-            .1 .1 .1 .0;
+        entry =
+            a .1 .1 .1 .1 .1 .1 .0;
         exit = s .1 .1 .1 .1 .1 .1 .0;
-      } record { entry = a .1 .1 .1 .1 .1 .1 .1 .0; exit = s .1 .1 .1 .1 .1 .1 .1 .0 } r) (ensures-1·read a g r s) (ensures-2·read a g r s)
+      } r) (λ w. collect.ensures-2 (w .𝓤) (w .H) κs (w .𝓖 .A) (w .𝓜 .mem) (w .𝓡 .run) (a .0) (a .1 .0) (a .1 .1 .0) (a .1 .1 .1 .0) (a
+      .1 .1 .1 .1 .0) (a .1 .1 .1 .1 .1 .0) (a .1 .1 .1 .1 .1 .1 .0) record { entry = a .0; exit = s .0 } record { entry = a .1 .0; exit = s .1 .0 } record {
+        entry = a .1 .1 .0;
+        exit = s .1
+            .1 .0;
+      } record { entry = a .1 .1 .1 .0; exit = s .1 .1 .1 .0 } record { entry = a .1 .1 .1 .1 .0; exit = s .1 .1 .1 .1 .0 } record {
+        entry = a .1 .1 .1 .1 .1 .0;
+        exit = s .1 .1 .1 .1
+            .1 .0;
+      } record { entry = a .1 .1 .1 .1 .1 .1 .0; exit = s .1 .1 .1 .1 .1 .1 .0 } r) (ensures-1·read a g r s) (ensures-2·read a g r s)
 
 abbrev pub Pre : Kinds'.In 5 Kinds.ps
 Pre = Written.Pre 5 Kinds.ps Kinds.r Ghost requires ensures pre-read Pinned Owned post-read tt

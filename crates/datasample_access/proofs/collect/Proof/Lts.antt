@@ -1,7 +1,7 @@
 -- Machine-made by `python3 lent.py datasample_access collect`: do not edit; make it again when the source changes.
 use Prim.Native.Nat
-use Rattle.sampleinfo.proofs.NotAliveGenerationCounts
-use Rattle.sampleinfo.proofs.NotAliveGenerationCounts.Laws as NotAliveGenerationCounts′
+use Rattle.infos.proofs.Ranking
+use Rattle.infos.proofs.Ranking.Laws as Ranking′
 use Rattle.sampleinfo.proofs.Short as L
 use Rattle.sampleinfo.proofs.Slot as S
 use borrow.Author.Called
@@ -108,7 +108,7 @@ abbrev r8 : Row.Row
 r8 = Rows'.any-gone (L.sl y5)
 
 abbrev r9 : Row.Row
-r9 = Rows'.whole (Declared.row NotAliveGenerationCounts.the-type)
+r9 = Relend.msptr L.u64 y5 5
 
 abbrev r10 : Row.Row
 r10 = Mut.mslice L.u64 y5 5
@@ -120,15 +120,17 @@ abbrev r12 : Row.Row
 r12 = Rows'.any-gone y5
 
 abbrev r13 : Row.Row
-r13 = Rows'.any-gone NotAliveGenerationCounts′.mir
+r13 = Rows'.whole (Declared.row Ranking.the-type)
 
 abbrev r14 : Row.Row
-r14 = Rows'.any-gone S.ty
+r14 = Rows'.any-gone Ranking′.mir
+
+abbrev r15 : Row.Row
+r15 = Rows'.any-gone S.ty
 
 abbrev pub ps : List.List (Kinds.PK 5)
-ps = ShrSlice.pShrS S.row 0 tt ∷ ShrRef.pShr (Array'.Array L.u64 928) 1 tt ∷ ShrRef.pShr (Array'.Array L.u64 256) 2 tt ∷ Num.pNum Y.w64 ∷ (L.p NotAliveGenerationCounts.the-type
-    NotAliveGenerationCounts′.the-laws NotAliveGenerationCounts′.the-copy NotAliveGenerationCounts′.the-plain) ∷ (L.p NotAliveGenerationCounts.the-type NotAliveGenerationCounts′.the-laws NotAliveGenerationCounts′.the-copy NotAliveGenerationCounts′.the-plain) ∷ MutSlice.pMutS L.u64 3 tt ∷ Kinds.pMut (Array'.Array
-    L.u64 32) 4 tt ∷ []
+ps = ShrSlice.pShrS S.row 0 tt ∷ ShrRef.pShr (Array'.Array L.u64 928) 1 tt ∷ ShrRef.pShr (Array'.Array L.u64 256) 2 tt ∷ Num.pNum Y.w64 ∷ (L.p Ranking.the-type Ranking′.the-laws Ranking′.the-copy
+    Ranking′.the-plain) ∷ MutSlice.pMutS L.u64 3 tt ∷ Kinds.pMut (Array'.Array L.u64 32) 4 tt ∷ []
 
 abbrev pub r : Kinds.RK 5
 r = Unit'.rUnit
@@ -152,21 +154,21 @@ abbrev pub r·1 : Kinds.RK 1
 r·1 = S.r
 
 abbrev pub ps·2 : List.List (Kinds.PK 3)
-ps·2 = ShrRef.pShr (Array'.Array L.u64 928) 0 tt ∷ Num.pNum Y.w64 ∷ S.p ∷ Num.pNum Y.w64 ∷ Num.pNum Y.w64 ∷ (L.p NotAliveGenerationCounts.the-type NotAliveGenerationCounts′.the-laws NotAliveGenerationCounts′.the-copy
-    NotAliveGenerationCounts′.the-plain) ∷ (L.p NotAliveGenerationCounts.the-type NotAliveGenerationCounts′.the-laws NotAliveGenerationCounts′.the-copy NotAliveGenerationCounts′.the-plain) ∷ MutSlice.pMutS L.u64 1 tt ∷ Kinds.pMut (Array'.Array L.u64 32) 2 tt ∷ []
+ps·2 = ShrRef.pShr (Array'.Array L.u64 928) 0 tt ∷ Num.pNum Y.w64 ∷ S.p ∷ Num.pNum Y.w64 ∷ Num.pNum Y.w64 ∷ (L.p Ranking.the-type Ranking′.the-laws Ranking′.the-copy Ranking′.the-plain) ∷
+    MutSlice.pMutS L.u64 1 tt ∷ Kinds.pMut (Array'.Array L.u64 32) 2 tt ∷ []
 
 abbrev pub r·2 : Kinds.RK 3
 r·2 = Unit'.rUnit
 
 abbrev pub hs : List.List Y.Home
 hs = Y.valueLocal ∷ Y.valueLocal ∷ Y.valueLocal ∷ Y.valueLocal ∷ Y.valueLocal ∷ Y.valueLocal ∷ Y.valueLocal ∷ Y.valueLocal ∷ Y.valueLocal ∷ Y.valueLocal ∷ Y.valueLocal ∷ Y.valueLocal ∷
-    Y.valueLocal ∷ Y.valueLocal ∷ Y.valueLocal ∷ Y.valueLocal ∷ Y.valueLocal ∷ Y.valueLocal ∷ Y.valueLocal ∷ []
+    Y.valueLocal ∷ Y.valueLocal ∷ Y.valueLocal ∷ Y.valueLocal ∷ Y.valueLocal ∷ Y.valueLocal ∷ []
 
 abbrev b0 : Y.Body
-b0 = Y.assign (Y.place 9 []) (Y.rvOpd (Y.int Y.w64 0))
+b0 = Y.assign (Y.place 8 []) (Y.rvOpd (Y.int Y.w64 0))
 
 abbrev b1 : Y.Body
-b1 = Y.assign (Y.place 12 []) (Y.op2 (Y.lt Y.unsigned) (Y.copy (Y.place 9 [])) (Y.copy (Y.place 4 [])))
+b1 = Y.assign (Y.place 11 []) (Y.op2 (Y.lt Y.unsigned) (Y.copy (Y.place 8 [])) (Y.copy (Y.place 4 [])))
 
 abbrev b2 : Y.Body
 b2 = Y.skip
@@ -175,35 +177,35 @@ abbrev b3 : Y.Body
 b3 = Y.exit 1
 
 abbrev b4 : Y.Body
-b4 = Y.cond (Y.copy (Y.place 12 [])) b2 b3
+b4 = Y.cond (Y.copy (Y.place 11 [])) b2 b3
 
 abbrev b5 : Y.Body
-b5 = Y.call "access::slot_at" (Y.copy (Y.place 3 []) ∷ Y.copy (Y.place 9 []) ∷ []) (Y.place 10 [])
+b5 = Y.call "access::slot_at" (Y.copy (Y.place 3 []) ∷ Y.copy (Y.place 8 []) ∷ []) (Y.place 9 [])
 
 abbrev b6 : Y.Body
-b6 = Y.call "samples::peek" (Y.copy (Y.place 1 []) ∷ Y.copy (Y.place 10 []) ∷ []) (Y.place 11 [])
+b6 = Y.call "samples::peek" (Y.copy (Y.place 1 []) ∷ Y.copy (Y.place 9 []) ∷ []) (Y.place 10 [])
 
 abbrev b7 : Y.Body
-b7 = Y.assign (Y.place 14 []) (Y.op2 (Y.sub Y.unsigned) (Y.copy (Y.place 4 [])) (Y.int Y.w64 1))
+b7 = Y.assign (Y.place 13 []) (Y.op2 (Y.sub Y.unsigned) (Y.copy (Y.place 4 [])) (Y.int Y.w64 1))
 
 abbrev b8 : Y.Body
-b8 = Y.assign (Y.place 15 []) (Y.op2 (Y.sub Y.unsigned) (Y.copy (Y.place 14 [])) (Y.copy (Y.place 9 [])))
+b8 = Y.assign (Y.place 14 []) (Y.op2 (Y.sub Y.unsigned) (Y.copy (Y.place 13 [])) (Y.copy (Y.place 8 [])))
 
 abbrev b9 : Y.Body
-b9 = Y.assign (Y.place 16 []) (Y.addrOf (Y.place 7 (Y.field 0 ∷ Y.deref (Y.tyInt Y.w64) ∷ [])))
+b9 = Y.assign (Y.place 15 []) (Y.addrOf (Y.place 6 (Y.field 0 ∷ Y.deref (Y.tyInt Y.w64) ∷ [])))
 
 abbrev b10 : Y.Body
-b10 = Y.assign (Y.place 17 []) (Y.aggregate (Y.copy (Y.place 16 []) ∷ Y.copy (Y.place 7 (Y.field 1 ∷ [])) ∷ []))
+b10 = Y.assign (Y.place 16 []) (Y.aggregate (Y.copy (Y.place 15 []) ∷ Y.copy (Y.place 6 (Y.field 1 ∷ [])) ∷ []))
 
 abbrev b11 : Y.Body
-b11 = Y.assign (Y.place 18 []) (Y.addrOf (Y.place 8 (Y.deref y9 ∷ [])))
+b11 = Y.assign (Y.place 17 []) (Y.addrOf (Y.place 7 (Y.deref y9 ∷ [])))
 
 abbrev b12 : Y.Body
-b12 = Y.call "access::show" (Y.copy (Y.place 2 []) ∷ Y.copy (Y.place 10 []) ∷ Y.copy (Y.place 11 []) ∷ Y.copy (Y.place 9 []) ∷ Y.copy (Y.place 15 []) ∷ Y.copy (Y.place 5 []) ∷ Y.copy
-    (Y.place 6 []) ∷ Y.copy (Y.place 17 []) ∷ Y.copy (Y.place 18 []) ∷ []) (Y.place 13 [])
+b12 = Y.call "access::show" (Y.copy (Y.place 2 []) ∷ Y.copy (Y.place 9 []) ∷ Y.copy (Y.place 10 []) ∷ Y.copy (Y.place 8 []) ∷ Y.copy (Y.place 14 []) ∷ Y.copy (Y.place 5 []) ∷ Y.copy
+    (Y.place 16 []) ∷ Y.copy (Y.place 17 []) ∷ []) (Y.place 12 [])
 
 abbrev b13 : Y.Body
-b13 = Y.assign (Y.place 9 []) (Y.op2 (Y.add Y.unsigned) (Y.copy (Y.place 9 [])) (Y.int Y.w64 1))
+b13 = Y.assign (Y.place 8 []) (Y.op2 (Y.add Y.unsigned) (Y.copy (Y.place 8 [])) (Y.int Y.w64 1))
 
 abbrev b14 : Y.Body
 b14 = Y.seq b12 b13
@@ -263,118 +265,145 @@ abbrev pub Claims : Type 1
 Claims = Kinds.In 1 ps·0 × Kinds.Out 1 ps·0 r·0 × Kinds.In 1 ps·1 × Kinds.Out 1 ps·1 r·1 × Kinds.In 3 ps·2 × Kinds.Out 3 ps·2 r·2
 
 abbrev pub t0 : List.List Row.Entry
-t0 = (0, L.gunit) ∷ (1, r11) ∷ (2, r1) ∷ (3, r2) ∷ (4, L.h64) ∷ (5, r9) ∷ (6, r9) ∷ (7, r7) ∷ (8, r3) ∷ (9, L.g64) ∷ (10, L.g64) ∷ (11, r14) ∷ (12, L.gbool) ∷ (13, L.gunit) ∷ (14, L.g64) ∷
-    (15, L.g64) ∷ []
+t0 = (0, L.gunit) ∷ (1, r11) ∷ (2, r1) ∷ (3, r2) ∷ (4, L.h64) ∷ (5, r13) ∷ (6, r7) ∷ (7, r3) ∷ (8, L.g64) ∷ (9, L.g64) ∷ (10, r15) ∷ (11, L.gbool) ∷ (12, L.gunit) ∷ (13, L.g64) ∷ (
+  14,
+  L.g64,
+) ∷ (15, r12) ∷ []
 
 abbrev pub t1 : List.List Row.Entry
-t1 = (16, r12) ∷ (17, r8) ∷ (18, r6) ∷ []
+t1 = (16, r8) ∷ (17, r6) ∷ []
 
 abbrev pub t2 : List.List Row.Entry
-t2 = (0, L.hunit) ∷ (1, r11) ∷ (2, r1) ∷ (3, r2) ∷ (4, L.g64) ∷ (5, r13) ∷ (6, r13) ∷ (7, r7) ∷ (8, r3) ∷ (9, L.g64) ∷ (10, L.g64) ∷ (11, r14) ∷ (12, L.gbool) ∷ (13, L.gunit) ∷ (14, L.g64)
-    ∷ (15, L.g64) ∷ []
+t2 = (0, L.hunit) ∷ (1, r11) ∷ (2, r1) ∷ (3, r2) ∷ (4, L.g64) ∷ (5, r14) ∷ (6, r7) ∷ (7, r3) ∷ (8, L.g64) ∷ (9, L.g64) ∷ (10, r15) ∷ (11, L.gbool) ∷ (12, L.gunit) ∷ (13, L.g64) ∷ (
+  14,
+  L.g64,
+) ∷ (15, r12) ∷ []
 
 abbrev pub t3 : List.List Row.Entry
-t3 = (0, L.gunit) ∷ (1, r11) ∷ (2, r1) ∷ (3, r2) ∷ (4, L.h64) ∷ (5, r9) ∷ (6, r9) ∷ (7, r7) ∷ (8, r3) ∷ (9, L.h64) ∷ (10, L.g64) ∷ (11, r14) ∷ (12, L.gbool) ∷ (13, L.gunit) ∷ (14, L.g64) ∷
-    (15, L.g64) ∷ []
+t3 = (0, L.gunit) ∷ (1, r11) ∷ (2, r1) ∷ (3, r2) ∷ (4, L.h64) ∷ (5, r13) ∷ (6, r7) ∷ (7, r3) ∷ (8, L.h64) ∷ (9, L.g64) ∷ (10, r15) ∷ (11, L.gbool) ∷ (12, L.gunit) ∷ (13, L.g64) ∷ (
+  14,
+  L.g64,
+) ∷ (15, r12) ∷ []
 
 abbrev pub t4 : List.List Row.Entry
-t4 = (0, L.gunit) ∷ (1, r11) ∷ (2, r1) ∷ (3, r2) ∷ (4, L.h64) ∷ (5, r13) ∷ (6, r13) ∷ (7, r7) ∷ (8, r3) ∷ (9, L.h64) ∷ (10, L.g64) ∷ (11, r14) ∷ (12, L.gbool) ∷ (13, L.gunit) ∷ (14, L.g64)
-    ∷ (15, L.g64) ∷ []
+t4 = (0, L.gunit) ∷ (1, r11) ∷ (2, r1) ∷ (3, r2) ∷ (4, L.h64) ∷ (5, r14) ∷ (6, r7) ∷ (7, r3) ∷ (8, L.h64) ∷ (9, L.g64) ∷ (10, r15) ∷ (11, L.gbool) ∷ (12, L.gunit) ∷ (13, L.g64) ∷ (
+  14,
+  L.g64,
+) ∷ (15, r12) ∷ []
 
 abbrev pub t5 : List.List Row.Entry
-t5 = (0, L.gunit) ∷ (1, r11) ∷ (2, r1) ∷ (3, r2) ∷ (4, L.h64) ∷ (5, r9) ∷ (6, r9) ∷ (7, r7) ∷ (8, r3) ∷ (9, L.h64) ∷ (10, L.g64) ∷ (11, r14) ∷ (12, L.hbool) ∷ (13, L.gunit) ∷ (14, L.g64) ∷
-    (15, L.g64) ∷ []
+t5 = (0, L.gunit) ∷ (1, r11) ∷ (2, r1) ∷ (3, r2) ∷ (4, L.h64) ∷ (5, r13) ∷ (6, r7) ∷ (7, r3) ∷ (8, L.h64) ∷ (9, L.g64) ∷ (10, r15) ∷ (11, L.hbool) ∷ (12, L.gunit) ∷ (13, L.g64) ∷ (
+  14,
+  L.g64,
+) ∷ (15, r12) ∷ []
 
 abbrev pub t6 : List.List Row.Entry
-t6 = (0, L.gunit) ∷ (1, r11) ∷ (2, r1) ∷ (3, r2) ∷ (4, L.h64) ∷ (5, r13) ∷ (6, r9) ∷ (7, r7) ∷ (8, r3) ∷ (9, L.h64) ∷ (10, L.g64) ∷ (11, r14) ∷ (12, L.hbool) ∷ (13, L.gunit) ∷ (14, L.g64) ∷
-    (15, L.g64) ∷ []
+t6 = (0, L.gunit) ∷ (1, r11) ∷ (2, r1) ∷ (3, r2) ∷ (4, L.h64) ∷ (5, r14) ∷ (6, r7) ∷ (7, r3) ∷ (8, L.h64) ∷ (9, L.g64) ∷ (10, r15) ∷ (11, L.hbool) ∷ (12, L.gunit) ∷ (13, L.g64) ∷ (
+  14,
+  L.g64,
+) ∷ (15, r12) ∷ []
 
 abbrev pub t7 : List.List Row.Entry
-t7 = (0, L.gunit) ∷ (1, r11) ∷ (2, r1) ∷ (3, r2) ∷ (4, L.h64) ∷ (5, r13) ∷ (6, r13) ∷ (7, r7) ∷ (8, r3) ∷ (9, L.h64) ∷ (10, L.g64) ∷ (11, r14) ∷ (12, L.hbool) ∷ (13, L.gunit) ∷ (14, L.g64)
-    ∷ (15, L.g64) ∷ []
+t7 = (0, L.gunit) ∷ (1, r11) ∷ (2, r1) ∷ (3, r2) ∷ (4, L.h64) ∷ (5, r13) ∷ (6, r7) ∷ (7, r3) ∷ (8, L.h64) ∷ (9, L.h64) ∷ (10, r15) ∷ (11, L.gbool) ∷ (12, L.gunit) ∷ (13, L.g64) ∷ (
+  14,
+  L.g64,
+) ∷ (15, r12) ∷ []
 
 abbrev pub t8 : List.List Row.Entry
-t8 = (0, L.gunit) ∷ (1, r11) ∷ (2, r1) ∷ (3, r2) ∷ (4, L.h64) ∷ (5, r9) ∷ (6, r9) ∷ (7, r7) ∷ (8, r3) ∷ (9, L.h64) ∷ (10, L.h64) ∷ (11, r14) ∷ (12, L.gbool) ∷ (13, L.gunit) ∷ (14, L.g64) ∷
-    (15, L.g64) ∷ []
+t8 = (0, L.gunit) ∷ (1, r11) ∷ (2, r1) ∷ (3, r2) ∷ (4, L.h64) ∷ (5, r13) ∷ (6, r7) ∷ (7, r3) ∷ (8, L.h64) ∷ (9, L.h64) ∷ (10, S.here) ∷ (11, L.gbool) ∷ (12, L.gunit) ∷ (13, L.g64) ∷ (
+  14,
+  L.g64,
+) ∷ (15, r12) ∷ []
 
 abbrev pub t9 : List.List Row.Entry
-t9 = (0, L.gunit) ∷ (1, r11) ∷ (2, r1) ∷ (3, r2) ∷ (4, L.h64) ∷ (5, r9) ∷ (6, r9) ∷ (7, r7) ∷ (8, r3) ∷ (9, L.h64) ∷ (10, L.h64) ∷ (11, S.here) ∷ (12, L.gbool) ∷ (13, L.gunit) ∷ (14, L.g64)
-    ∷ (15, L.g64) ∷ []
+t9 = (0, L.gunit) ∷ (1, r11) ∷ (2, r1) ∷ (3, r2) ∷ (4, L.h64) ∷ (5, r13) ∷ (6, r7) ∷ (7, r3) ∷ (8, L.h64) ∷ (9, L.h64) ∷ (10, S.here) ∷ (11, L.gbool) ∷ (12, L.gunit) ∷ (13, L.h64) ∷ (
+  14,
+  L.g64,
+) ∷ (15, r12) ∷ []
 
 abbrev pub t10 : List.List Row.Entry
-t10 = (0, L.gunit) ∷ (1, r11) ∷ (2, r1) ∷ (3, r2) ∷ (4, L.h64) ∷ (5, r9) ∷ (6, r9) ∷ (7, r7) ∷ (8, r3) ∷ (9, L.h64) ∷ (10, L.h64) ∷ (11, S.here) ∷ (12, L.gbool) ∷ (13, L.gunit) ∷ (
+t10 = (0, L.gunit) ∷ (1, r11) ∷ (2, r1) ∷ (3, r2) ∷ (4, L.h64) ∷ (5, r13) ∷ (6, r7) ∷ (7, r3) ∷ (8, L.h64) ∷ (9, L.h64) ∷ (10, S.here) ∷ (11, L.gbool) ∷ (12, L.gunit) ∷ (13, L.h64) ∷ (
   14,
   L.h64,
-) ∷ (15, L.g64) ∷ []
+) ∷ (15, r12) ∷ []
 
 abbrev pub t11 : List.List Row.Entry
-t11 = (0, L.gunit) ∷ (1, r11) ∷ (2, r1) ∷ (3, r2) ∷ (4, L.h64) ∷ (5, r9) ∷ (6, r9) ∷ (7, r7) ∷ (8, r3) ∷ (9, L.h64) ∷ (10, L.h64) ∷ (11, S.here) ∷ (12, L.gbool) ∷ (13, L.gunit) ∷ (
+t11 = (0, L.gunit) ∷ (1, r11) ∷ (2, r1) ∷ (3, r2) ∷ (4, L.h64) ∷ (5, r13) ∷ (6, r7) ∷ (7, r3) ∷ (8, L.h64) ∷ (9, L.h64) ∷ (10, S.here) ∷ (11, L.gbool) ∷ (12, L.gunit) ∷ (13, L.g64) ∷ (
   14,
   L.h64,
-) ∷ (15, L.h64) ∷ []
+) ∷ (15, r12) ∷ []
 
 abbrev pub t12 : List.List Row.Entry
-t12 = (0, L.gunit) ∷ (1, r11) ∷ (2, r1) ∷ (3, r2) ∷ (4, L.h64) ∷ (5, r9) ∷ (6, r9) ∷ (7, r7) ∷ (8, r3) ∷ (9, L.h64) ∷ (10, L.h64) ∷ (11, S.here) ∷ (12, L.gbool) ∷ (13, L.gunit) ∷ (
+t12 = (0, L.gunit) ∷ (1, r11) ∷ (2, r1) ∷ (3, r2) ∷ (4, L.h64) ∷ (5, r13) ∷ (6, r5) ∷ (7, r3) ∷ (8, L.h64) ∷ (9, L.h64) ∷ (10, S.here) ∷ (11, L.gbool) ∷ (12, L.gunit) ∷ (13, L.g64) ∷ (
   14,
-  L.g64,
-) ∷ (15, L.h64) ∷ []
+  L.h64,
+) ∷ (15, r9) ∷ []
 
 abbrev pub t13 : List.List Row.Entry
-t13 = (0, L.gunit) ∷ (1, r11) ∷ (2, r1) ∷ (3, r2) ∷ (4, L.h64) ∷ (5, r9) ∷ (6, r9) ∷ (7, r5) ∷ (8, r3) ∷ (9, L.h64) ∷ (10, L.h64) ∷ (11, S.here) ∷ (12, L.gbool) ∷ (13, L.gunit) ∷ (
+t13 = (0, L.gunit) ∷ (1, r11) ∷ (2, r1) ∷ (3, r2) ∷ (4, L.h64) ∷ (5, r13) ∷ (6, r5) ∷ (7, r3) ∷ (8, L.h64) ∷ (9, L.h64) ∷ (10, S.here) ∷ (11, L.gbool) ∷ (12, L.gunit) ∷ (13, L.g64) ∷ (
   14,
-  L.g64,
-) ∷ (15, L.h64) ∷ []
+  L.h64,
+) ∷ (15, r12) ∷ []
 
 abbrev pub t14 : List.List Row.Entry
-t14 = (16, Relend.msptr L.u64 y5 5) ∷ (17, r8) ∷ (18, r6) ∷ []
+t14 = (16, r10) ∷ (17, r6) ∷ []
 
 abbrev pub t15 : List.List Row.Entry
-t15 = (16, r12) ∷ (17, r10) ∷ (18, r6) ∷ []
+t15 = (0, L.gunit) ∷ (1, r11) ∷ (2, r1) ∷ (3, r2) ∷ (4, L.h64) ∷ (5, r13) ∷ (6, r5) ∷ (7, r0) ∷ (8, L.h64) ∷ (9, L.h64) ∷ (10, S.here) ∷ (11, L.gbool) ∷ (12, L.gunit) ∷ (13, L.g64) ∷ (
+  14,
+  L.h64,
+) ∷ (15, r12) ∷ []
 
 abbrev pub t16 : List.List Row.Entry
-t16 = (0, L.gunit) ∷ (1, r11) ∷ (2, r1) ∷ (3, r2) ∷ (4, L.h64) ∷ (5, r9) ∷ (6, r9) ∷ (7, r5) ∷ (8, r0) ∷ (9, L.h64) ∷ (10, L.h64) ∷ (11, S.here) ∷ (12, L.gbool) ∷ (13, L.gunit) ∷ (
-  14,
-  L.g64,
-) ∷ (15, L.h64) ∷ []
+t16 = (16, r10) ∷ (17, Rows'.mref (Array'.Array L.u64 32) y3 6) ∷ []
 
 abbrev pub t17 : List.List Row.Entry
-t17 = (16, r12) ∷ (17, r10) ∷ (18, Rows'.mref (Array'.Array L.u64 32) y3 6) ∷ []
+t17 = (0, L.gunit) ∷ (1, r11) ∷ (2, r1) ∷ (3, r2) ∷ (4, L.h64) ∷ (5, r13) ∷ (6, r5) ∷ (7, r0) ∷ (8, L.h64) ∷ (9, L.h64) ∷ (10, S.here) ∷ (11, L.gbool) ∷ (12, L.hunit) ∷ (13, L.g64) ∷ (
+  14,
+  L.h64,
+) ∷ (15, r12) ∷ []
 
 abbrev pub t18 : List.List Row.Entry
-t18 = (0, L.gunit) ∷ (1, r11) ∷ (2, r1) ∷ (3, r2) ∷ (4, L.h64) ∷ (5, r9) ∷ (6, r9) ∷ (7, r5) ∷ (8, r0) ∷ (9, L.h64) ∷ (10, L.h64) ∷ (11, S.here) ∷ (12, L.gbool) ∷ (13, L.hunit) ∷ (
-  14,
-  L.g64,
-) ∷ (15, L.h64) ∷ []
+t18 = (16, Mut.msleft L.u64 y5) ∷ (17, r4) ∷ []
 
 abbrev pub t19 : List.List Row.Entry
-t19 = (16, r12) ∷ (17, Mut.msleft L.u64 y5) ∷ (18, r4) ∷ []
+t19 = (0, L.gunit) ∷ (1, r11) ∷ (2, r1) ∷ (3, r2) ∷ (4, L.h64) ∷ (5, r13) ∷ (6, r5) ∷ (7, r0) ∷ (8, L.h64) ∷ (9, L.h64) ∷ (10, r15) ∷ (11, L.gbool) ∷ (12, L.hunit) ∷ (13, L.g64) ∷ (
+  14,
+  L.h64,
+) ∷ (15, r12) ∷ []
 
 abbrev pub t20 : List.List Row.Entry
-t20 = (0, L.gunit) ∷ (1, r11) ∷ (2, r1) ∷ (3, r2) ∷ (4, L.h64) ∷ (5, r9) ∷ (6, r9) ∷ (7, r5) ∷ (8, r0) ∷ (9, L.h64) ∷ (10, L.h64) ∷ (11, r14) ∷ (12, L.gbool) ∷ (13, L.hunit) ∷ (14, L.g64) ∷
-    (15, L.h64) ∷ []
+t20 = (0, L.gunit) ∷ (1, r11) ∷ (2, r1) ∷ (3, r2) ∷ (4, L.h64) ∷ (5, r13) ∷ (6, r5) ∷ (7, r0) ∷ (8, L.h64) ∷ (9, L.h64) ∷ (10, r15) ∷ (11, L.gbool) ∷ (12, L.gunit) ∷ (13, L.g64) ∷ (
+  14,
+  L.h64,
+) ∷ (15, r12) ∷ []
 
 abbrev pub t21 : List.List Row.Entry
-t21 = (0, L.gunit) ∷ (1, r11) ∷ (2, r1) ∷ (3, r2) ∷ (4, L.h64) ∷ (5, r9) ∷ (6, r9) ∷ (7, r5) ∷ (8, r0) ∷ (9, L.h64) ∷ (10, L.h64) ∷ (11, r14) ∷ (12, L.gbool) ∷ (13, L.gunit) ∷ (14, L.g64) ∷
-    (15, L.h64) ∷ []
+t21 = (0, L.gunit) ∷ (1, r11) ∷ (2, r1) ∷ (3, r2) ∷ (4, L.h64) ∷ (5, r13) ∷ (6, r5) ∷ (7, r0) ∷ (8, L.h64) ∷ (9, L.h64) ∷ (10, r15) ∷ (11, L.gbool) ∷ (12, L.gunit) ∷ (13, L.g64) ∷ (
+  14,
+  L.g64,
+) ∷ (15, r12) ∷ []
 
 abbrev pub t22 : List.List Row.Entry
-t22 = (0, L.gunit) ∷ (1, r11) ∷ (2, r1) ∷ (3, r2) ∷ (4, L.h64) ∷ (5, r9) ∷ (6, r9) ∷ (7, r5) ∷ (8, r0) ∷ (9, L.h64) ∷ (10, L.h64) ∷ (11, r14) ∷ (12, L.gbool) ∷ (13, L.gunit) ∷ (14, L.g64) ∷
-    (15, L.g64) ∷ []
+t22 = (0, L.gunit) ∷ (1, r11) ∷ (2, r1) ∷ (3, r2) ∷ (4, L.h64) ∷ (5, r13) ∷ (6, r7) ∷ (7, r0) ∷ (8, L.h64) ∷ (9, L.h64) ∷ (10, r15) ∷ (11, L.gbool) ∷ (12, L.gunit) ∷ (13, L.g64) ∷ (
+  14,
+  L.g64,
+) ∷ (15, r12) ∷ []
 
 abbrev pub t23 : List.List Row.Entry
-t23 = (0, L.gunit) ∷ (1, r11) ∷ (2, r1) ∷ (3, r2) ∷ (4, L.h64) ∷ (5, r9) ∷ (6, r9) ∷ (7, r7) ∷ (8, r0) ∷ (9, L.h64) ∷ (10, L.h64) ∷ (11, r14) ∷ (12, L.gbool) ∷ (13, L.gunit) ∷ (14, L.g64) ∷
-    (15, L.g64) ∷ []
+t23 = (16, r8) ∷ (17, r4) ∷ []
 
 abbrev pub t24 : List.List Row.Entry
-t24 = (16, r12) ∷ (17, r8) ∷ (18, r4) ∷ []
+t24 = (0, L.hunit) ∷ (1, r11) ∷ (2, r1) ∷ (3, r2) ∷ (4, L.h64) ∷ (5, r14) ∷ (6, r7) ∷ (7, r3) ∷ (8, L.h64) ∷ (9, L.g64) ∷ (10, r15) ∷ (11, L.gbool) ∷ (12, L.gunit) ∷ (13, L.g64) ∷ (
+  14,
+  L.g64,
+) ∷ (15, r12) ∷ []
 
 abbrev pub t25 : List.List Row.Entry
-t25 = (0, L.hunit) ∷ (1, r11) ∷ (2, r1) ∷ (3, r2) ∷ (4, L.h64) ∷ (5, r13) ∷ (6, r13) ∷ (7, r7) ∷ (8, r3) ∷ (9, L.h64) ∷ (10, L.g64) ∷ (11, r14) ∷ (12, L.gbool) ∷ (13, L.gunit) ∷ (14, L.g64)
-    ∷ (15, L.g64) ∷ []
-
-abbrev pub t26 : List.List Row.Entry
-t26 = (0, L.hunit) ∷ (1, r11) ∷ (2, r1) ∷ (3, r2) ∷ (4, L.h64) ∷ (5, r13) ∷ (6, r13) ∷ (7, r7) ∷ (8, r3) ∷ (9, L.g64) ∷ (10, L.g64) ∷ (11, r14) ∷ (12, L.gbool) ∷ (13, L.gunit) ∷ (14, L.g64)
-    ∷ (15, L.g64) ∷ []
+t25 = (0, L.hunit) ∷ (1, r11) ∷ (2, r1) ∷ (3, r2) ∷ (4, L.h64) ∷ (5, r14) ∷ (6, r7) ∷ (7, r3) ∷ (8, L.g64) ∷ (9, L.g64) ∷ (10, r15) ∷ (11, L.gbool) ∷ (12, L.gunit) ∷ (13, L.g64) ∷ (
+  14,
+  L.g64,
+) ∷ (15, r12) ∷ []
 
 abbrev pub T0 : Row.Cx
 T0 = record { locals = List._++_ t0 t1; slots = [] }
@@ -404,10 +433,10 @@ abbrev pub T8 : Row.Cx
 T8 = record { locals = List._++_ t6 t1; slots = [] }
 
 abbrev pub T9 : Row.Cx
-T9 = record { locals = List._++_ t7 t1; slots = [] }
+T9 = record { locals = List._++_ t4 t1; slots = [] }
 
 abbrev pub T10 : Row.Cx
-T10 = record { locals = List._++_ t4 t1; slots = [] }
+T10 = record { locals = List._++_ t7 t1; slots = [] }
 
 abbrev pub T11 : Row.Cx
 T11 = record { locals = List._++_ t8 t1; slots = [] }
@@ -421,53 +450,50 @@ T13 = record { locals = List._++_ t10 t1; slots = [] }
 abbrev pub T14 : Row.Cx
 T14 = record { locals = List._++_ t11 t1; slots = [] }
 
-abbrev pub T15 : Row.Cx
-T15 = record { locals = List._++_ t12 t1; slots = [] }
+abbrev pub T16 : Row.Cx
+T16 = record { locals = List._++_ t12 t1; slots = [] }
 
 abbrev pub T17 : Row.Cx
 T17 = record { locals = List._++_ t13 t14; slots = [] }
 
-abbrev pub T18 : Row.Cx
-T18 = record { locals = List._++_ t13 t15; slots = [] }
+abbrev pub T19 : Row.Cx
+T19 = record { locals = List._++_ t15 t16; slots = [] }
 
 abbrev pub T20 : Row.Cx
-T20 = record { locals = List._++_ t16 t17; slots = [] }
+T20 = record { locals = List._++_ t17 t18; slots = [] }
 
 abbrev pub T21 : Row.Cx
-T21 = record { locals = List._++_ t18 t19; slots = [] }
+T21 = record { locals = List._++_ t19 t18; slots = [] }
 
 abbrev pub T22 : Row.Cx
-T22 = record { locals = List._++_ t20 t19; slots = [] }
+T22 = record { locals = List._++_ t20 t18; slots = [] }
 
 abbrev pub T23 : Row.Cx
-T23 = record { locals = List._++_ t21 t19; slots = [] }
+T23 = record { locals = List._++_ t21 t18; slots = [] }
 
-abbrev pub T24 : Row.Cx
-T24 = record { locals = List._++_ t22 t19; slots = [] }
+abbrev pub T25 : Row.Cx
+T25 = record { locals = List._++_ t22 t23; slots = [] }
 
 abbrev pub T26 : Row.Cx
-T26 = record { locals = List._++_ t23 t24; slots = [] }
+T26 = record { locals = List._++_ t22 t23; slots = [] }
 
-abbrev pub T27 : Row.Cx
-T27 = record { locals = List._++_ t23 t24; slots = [] }
+abbrev pub T29 : Row.Cx
+T29 = record { locals = List._++_ t7 t1; slots = [] }
 
-abbrev pub T30 : Row.Cx
-T30 = record { locals = List._++_ t8 t1; slots = [] }
+abbrev pub T31 : Row.Cx
+T31 = record { locals = List._++_ t7 t1; slots = [] }
 
 abbrev pub T32 : Row.Cx
-T32 = record { locals = List._++_ t8 t1; slots = [] }
+T32 = record { locals = List._++_ t3 t1; slots = [] }
 
 abbrev pub T33 : Row.Cx
-T33 = record { locals = List._++_ t3 t1; slots = [] }
+T33 = record { locals = List._++_ t24 t1; slots = [] }
 
 abbrev pub T34 : Row.Cx
 T34 = record { locals = List._++_ t25 t1; slots = [] }
 
 abbrev pub T35 : Row.Cx
-T35 = record { locals = List._++_ t26 t1; slots = [] }
-
-abbrev pub T36 : Row.Cx
-T36 = record { locals = List._++_ t2 t1; slots = [] }
+T35 = record { locals = List._++_ t2 t1; slots = [] }
 
 abbrev pub O0 : Typed.Outs
 O0 = record { next = Option.none; exits = []; returns = Option.some T1 }
@@ -485,136 +511,125 @@ abbrev pub O4 : Typed.Outs
 O4 = Typed.withNext (Option.some T6) O3
 
 abbrev pub InvT-loop : Type 1
-InvT-loop = List.List (S.row .Denot) → Array'.Array L.u64 928 .Denot → Array'.Array L.u64 256 .Denot → L.h64 .Mod → Rows'.whole (Declared.row NotAliveGenerationCounts.the-type) .Mod →
-    Rows'.whole (Declared.row NotAliveGenerationCounts.the-type) .Mod → List.List (Referent.rtF (Referent.fInt Y.w64) .Denot) → Array'.Array L.u64 32 .Denot → L.h64 .Mod → List.List
-    (Referent.rtF (Referent.fInt Y.w64) .Denot) → Array'.Array L.u64 32 .Denot → L.h64 .Mod → Type 0
+InvT-loop = List.List (S.row .Denot) → Array'.Array L.u64 928 .Denot → Array'.Array L.u64 256 .Denot → L.h64 .Mod → Rows'.whole (Declared.row Ranking.the-type) .Mod → List.List
+    (Referent.rtF (Referent.fInt Y.w64) .Denot) → Array'.Array L.u64 32 .Denot → L.h64 .Mod → List.List (Referent.rtF (Referent.fInt Y.w64) .Denot) → Array'.Array L.u64 32 .Denot → L.h64
+    .Mod → Type 0
 
 abbrev pub MeasureT-loop : Type 0
-MeasureT-loop = List.List (S.row .Denot) → Array'.Array L.u64 928 .Denot → Array'.Array L.u64 256 .Denot → L.h64 .Mod → Rows'.whole (Declared.row NotAliveGenerationCounts.the-type) .Mod →
-    Rows'.whole (Declared.row NotAliveGenerationCounts.the-type) .Mod → List.List (Referent.rtF (Referent.fInt Y.w64) .Denot) → Array'.Array L.u64 32 .Denot → L.h64 .Mod → List.List
-    (Referent.rtF (Referent.fInt Y.w64) .Denot) → Array'.Array L.u64 32 .Denot → L.h64 .Mod → Nat.ℕ
+MeasureT-loop = List.List (S.row .Denot) → Array'.Array L.u64 928 .Denot → Array'.Array L.u64 256 .Denot → L.h64 .Mod → Rows'.whole (Declared.row Ranking.the-type) .Mod → List.List
+    (Referent.rtF (Referent.fInt Y.w64) .Denot) → Array'.Array L.u64 32 .Denot → L.h64 .Mod → List.List (Referent.rtF (Referent.fInt Y.w64) .Denot) → Array'.Array L.u64 32 .Denot → L.h64
+    .Mod → Nat.ℕ
 
 module _ (claims· : Claims) where
   abbrev s0 : Typed.Gives T0 T2
-  s0 = Know.k-sl-known (Referent.fInt Y.w64) T0 7 3 y4 Row.off 0 λ x. x
+  s0 = Know.k-sl-known (Referent.fInt Y.w64) T0 6 3 y4 Row.off 0 λ x. x
 
   abbrev s1 : Typed.Mo T2 → Typed.Mo T3
-  s1 = Scalar.n-use T2 (Scalar.oInt Y.w64 0) 9 L.h64 (Row.sInt Y.w64 .of)
+  s1 = Scalar.n-use T2 (Scalar.oInt Y.w64 0) 8 L.h64 (Row.sInt Y.w64 .of)
 
   abbrev s2 : Typed.Asks T3 T5
-  s2 = Scalar.k-op2 T3 (Y.lt Y.unsigned) (Scalar.oAt 9 (Y.tyInt Y.w64) (Row.valS (Row.sInt Y.w64))) (Scalar.oAt 4 (Y.tyInt Y.w64) (Row.valS (Row.sInt Y.w64))) 12 L.hbool (Row.sBool .of)
+  s2 = Scalar.k-op2 T3 (Y.lt Y.unsigned) (Scalar.oAt 8 (Y.tyInt Y.w64) (Row.valS (Row.sInt Y.w64))) (Scalar.oAt 4 (Y.tyInt Y.w64) (Row.valS (Row.sInt Y.w64))) 11 L.hbool (Row.sBool .of)
 
   abbrev s3 : Typed.Mo T5 → Typed.Mo T7
-  s3 = Scalar.n-room T5 12 Y.tyBool
+  s3 = Scalar.n-room T5 11 Y.tyBool
 
   abbrev s4 : Typed.Mo T5 → Typed.Mo T8
-  s4 = Scalar.n-room T5 5 NotAliveGenerationCounts′.mir
+  s4 = Scalar.n-room T5 5 Ranking′.mir
 
   abbrev s5 : Typed.Mo T8 → Typed.Mo T9
-  s5 = Scalar.n-room T8 6 NotAliveGenerationCounts′.mir
+  s5 = Scalar.n-room T8 11 Y.tyBool
 
-  abbrev s6 : Typed.Mo T9 → Typed.Mo T10
-  s6 = Scalar.n-room T9 12 Y.tyBool
+  abbrev s6 : Typed.Both T6 T10
+  s6 = Call.callB ps·0 r·0 (claims· .0) (claims· .1) T6 (record { pos = 3; ty = Y.tyRef (Y.named 2) Y.imm y7; ref = λ x. x }, (Num.vAt 8 λ x. x, tt)) 9 (2 ∷ []) (Y.tyInt Y.w64)
 
-  abbrev s7 : Typed.Both T6 T11
-  s7 = Call.callB ps·0 r·0 (claims· .0) (claims· .1) T6 (record { pos = 3; ty = Y.tyRef (Y.named 2) Y.imm y7; ref = λ x. x }, (Num.vAt 9 λ x. x, tt)) 10 (2 ∷ []) (Y.tyInt Y.w64)
+  abbrev s7 : Typed.Both T10 T11
+  s7 = Call.callB ps·1 r·1 (claims· .2) (claims· .3) T10 (record { pos = 1; ty = Y.tyRef (Y.named 0) Y.imm S.named; ref = λ x. x }, (Num.vAt 9 λ x. x, tt)) 10 (0 ∷ []) S.ty
 
-  abbrev s8 : Typed.Both T11 T12
-  s8 = Call.callB ps·1 r·1 (claims· .2) (claims· .3) T11 (record { pos = 1; ty = Y.tyRef (Y.named 0) Y.imm S.named; ref = λ x. x }, (Num.vAt 10 λ x. x, tt)) 11 (0 ∷ []) S.ty
+  abbrev s8 : Typed.Asks T11 T12
+  s8 = Scalar.k-op2 T11 (Y.sub Y.unsigned) (Scalar.oAt 4 (Y.tyInt Y.w64) (Row.valS (Row.sInt Y.w64))) (Scalar.oInt Y.w64 1) 13 L.h64 (Row.sInt Y.w64 .of)
 
   abbrev s9 : Typed.Asks T12 T13
-  s9 = Scalar.k-op2 T12 (Y.sub Y.unsigned) (Scalar.oAt 4 (Y.tyInt Y.w64) (Row.valS (Row.sInt Y.w64))) (Scalar.oInt Y.w64 1) 14 L.h64 (Row.sInt Y.w64 .of)
-
-  abbrev s10 : Typed.Asks T13 T14
-  s10 = Scalar.k-op2 T13 (Y.sub Y.unsigned) (Scalar.oAt 14 (Y.tyInt Y.w64) (Row.valS (Row.sInt Y.w64))) (Scalar.oAt 9 (Y.tyInt Y.w64) (Row.valS (Row.sInt Y.w64))) 15 L.h64 (Row.sInt Y.w64
+  s9 = Scalar.k-op2 T12 (Y.sub Y.unsigned) (Scalar.oAt 13 (Y.tyInt Y.w64) (Row.valS (Row.sInt Y.w64))) (Scalar.oAt 8 (Y.tyInt Y.w64) (Row.valS (Row.sInt Y.w64))) 14 L.h64 (Row.sInt Y.w64
       .of)
 
-  abbrev s11 : Typed.Mo T14 → Typed.Mo T15
-  s11 = Scalar.n-room T14 14 (Y.tyInt Y.w64)
+  abbrev s10 : Typed.Mo T13 → Typed.Mo T14
+  s10 = Scalar.n-room T13 13 (Y.tyInt Y.w64)
 
-  abbrev s13 : Typed.Gives T15 T17
-  s13 = Relend.k-sl-relend L.u64 T15 7 16 3 5 y4 y5 Row.off λ x. x
+  abbrev s12 : Typed.Gives T14 T16
+  s12 = Relend.k-sl-relend L.u64 T14 6 15 3 5 y4 y5 Row.off λ x. x
 
-  abbrev s14 : Typed.Asks T17 T18
-  s14 = Relend.k-sl-aggregate L.u64 (Relend.asMut L.u64) T17 16 17 5 y5 y5 (λ x. x) (Scalar.oFld 7 (Y.field 1 ∷ []) (Y.tyInt Y.w64) 8 λ v. Shared.lenV (v .0))
+  abbrev s13 : Typed.Asks T16 T17
+  s13 = Relend.k-sl-aggregate L.u64 (Relend.asMut L.u64) T16 15 16 5 y5 y5 (λ x. x) (Scalar.oFld 6 (Y.field 1 ∷ []) (Y.tyInt Y.w64) 8 λ v. Shared.lenV (v .0))
 
-  abbrev s16 : Typed.Gives T18 T20
-  s16 = Reborrow.k-mref-relend T18 8 18 4 6 (Array'.Array L.u64 32) y2 y3 Row.off [] λ x. x
+  abbrev s15 : Typed.Gives T17 T19
+  s15 = Reborrow.k-mref-relend T17 7 17 4 6 (Array'.Array L.u64 32) y2 y3 Row.off [] λ x. x
 
-  abbrev s17 : Typed.Both T20 T21
-  s17 = Call.callB ps·2 r·2 (claims· .4) (claims· .5) T20 (
+  abbrev s16 : Typed.Both T19 T20
+  s16 = Call.callB ps·2 r·2 (claims· .4) (claims· .5) T19 (
     record { pos = 2; ty = Y.tyRef (Y.named 1) Y.imm y8; ref = λ x. x },
     (
-      Num.vAt 10 λ x. x,
+      Num.vAt 9 λ x. x,
       (
         record {
-          pos = 11;
+          pos = 10;
           st = [];
           d = 0;
           at =
               λ x. x;
         },
         (
-          Num.vAt 9 λ x. x,
+          Num.vAt 8 λ x. x,
           (
-            Num.vAt 15 λ x. x,
+            Num.vAt 14 λ x. x,
             (
               record { pos = 5; st = []; d = 0; at = λ x. x },
               (
-                record { pos = 6; st = []; d = 0; at = λ x. x },
-                (
-                  record {
-                    pos = 17;
-                    ty = Y.tyRef
-                        Y.erased Y.mut (Y.tyInt Y.w64);
-                    ref = λ x. x;
-                  },
-                  (record { pos = 18; ty = Y.tyRef Y.erased Y.mut y9; ref = λ x. x }, tt),
-                ),
+                record { pos = 16; ty = Y.tyRef Y.erased Y.mut (Y.tyInt Y.w64); ref = λ x. x },
+                (record { pos = 17; ty = Y.tyRef Y.erased Y.mut y9; ref = λ x. x }, tt),
               ),
             ),
           ),
         ),
       ),
     ),
-  ) 13 (1 ∷ 5 ∷ 6 ∷ []) Y.tyUnit
+  ) 12 (1 ∷ 5 ∷ 6 ∷ []) Y.tyUnit
+
+  abbrev s17 : Typed.Mo T20 → Typed.Mo T21
+  s17 = Scalar.n-room T20 10 S.ty
 
   abbrev s18 : Typed.Mo T21 → Typed.Mo T22
-  s18 = Scalar.n-room T21 11 S.ty
+  s18 = Scalar.n-room T21 12 Y.tyUnit
 
   abbrev s19 : Typed.Mo T22 → Typed.Mo T23
-  s19 = Scalar.n-room T22 13 Y.tyUnit
+  s19 = Scalar.n-room T22 14 (Y.tyInt Y.w64)
 
-  abbrev s20 : Typed.Mo T23 → Typed.Mo T24
-  s20 = Scalar.n-room T23 15 (Y.tyInt Y.w64)
+  abbrev s21 : Typed.Both T23 T25
+  s21 = Relend.k-back-sl L.u64 T23 16 6 3 5 y4 y5 Row.off (λ x. x) λ x. x
 
-  abbrev s22 : Typed.Both T24 T26
-  s22 = Relend.k-back-sl L.u64 T24 17 7 3 5 y4 y5 Row.off (λ x. x) λ x. x
+  abbrev s22 : Typed.Gives T25 T26
+  s22 = Know.k-sl-known (Referent.fInt Y.w64) T25 6 3 y4 Row.off 0 λ x. x
 
-  abbrev s23 : Typed.Gives T26 T27
-  s23 = Know.k-sl-known (Referent.fInt Y.w64) T26 7 3 y4 Row.off 0 λ x. x
+  abbrev s25 : Typed.Asks T26 T29
+  s25 = Reborrow.k-back-mref T26 17 7 4 (Array'.Array L.u64 32) y2 y3 [] (λ x. x) λ x. x
 
-  abbrev s26 : Typed.Asks T27 T30
-  s26 = Reborrow.k-back-mref T27 18 8 4 (Array'.Array L.u64 32) y2 y3 [] (λ x. x) λ x. x
+  abbrev s27 : Typed.Asks T29 T31
+  s27 = Scalar.k-op2 T29 (Y.add Y.unsigned) (Scalar.oAt 8 (Y.tyInt Y.w64) (Row.valS (Row.sInt Y.w64))) (Scalar.oInt Y.w64 1) 8 L.h64 (Row.sInt Y.w64 .of)
 
-  abbrev s28 : Typed.Asks T30 T32
-  s28 = Scalar.k-op2 T30 (Y.add Y.unsigned) (Scalar.oAt 9 (Y.tyInt Y.w64) (Row.valS (Row.sInt Y.w64))) (Scalar.oInt Y.w64 1) 9 L.h64 (Row.sInt Y.w64 .of)
+  abbrev s28 : Typed.Mo T31 → Typed.Mo T32
+  s28 = Scalar.n-room T31 9 (Y.tyInt Y.w64)
 
-  abbrev s29 : Typed.Mo T32 → Typed.Mo T33
-  s29 = Scalar.n-room T32 10 (Y.tyInt Y.w64)
+  abbrev s29 : Typed.Mo T4 → Typed.Mo T33
+  s29 = Scalar.n-use T4 Scalar.oUnit 0 L.hunit (Row.sUnit .of)
 
-  abbrev s30 : Typed.Mo T4 → Typed.Mo T34
-  s30 = Scalar.n-use T4 Scalar.oUnit 0 L.hunit (Row.sUnit .of)
+  abbrev s30 : Typed.Mo T33 → Typed.Mo T34
+  s30 = Scalar.n-room T33 8 (Y.tyInt Y.w64)
 
   abbrev s31 : Typed.Mo T34 → Typed.Mo T35
-  s31 = Scalar.n-room T34 9 (Y.tyInt Y.w64)
-
-  abbrev s32 : Typed.Mo T35 → Typed.Mo T36
-  s32 = Scalar.n-room T35 4 (Y.tyInt Y.w64)
+  s31 = Scalar.n-room T34 4 (Y.tyInt Y.w64)
 
   abbrev put0 : List.List (Referent.rtF (Referent.fInt Y.w64) .Denot) × Array'.Array L.u64 32 .Denot × L.h64 .Mod → Typed.Mo T3 → Typed.Mo T3
-  put0 = λ vs u. Row.set 9 (9, L.h64) (vs .2) (T3 .locals) (Row.set 8 (8, r3) record { ptr = Row.get 8 (T3 .locals) u .ptr; name = Row.get 8 (T3 .locals) u .name; now = vs .1 } (T3
-      .locals) (Row.set 7 (7, r7) record { ptr = Row.get 7 (T3 .locals) u .ptr; name = Row.get 7 (T3 .locals) u .name; now = vs .0 } (T3 .locals) u))
+  put0 = λ vs u. Row.set 8 (8, L.h64) (vs .2) (T3 .locals) (Row.set 7 (7, r3) record { ptr = Row.get 7 (T3 .locals) u .ptr; name = Row.get 7 (T3 .locals) u .name; now = vs .1 } (T3
+      .locals) (Row.set 6 (6, r7) record { ptr = Row.get 6 (T3 .locals) u .ptr; name = Row.get 6 (T3 .locals) u .name; now = vs .0 } (T3 .locals) u))
 
   module _ (Pre· : (κs : Lifetimes.Lfts 5) → Kinds.Dens κs ps → Type 0) (Post· : (κs : Lifetimes.Lfts 5) → (a : Kinds.Dens κs ps) → Kinds.Plain 5 ps r κs) where
     module _ (M : Type 1) where
@@ -630,125 +645,122 @@ module _ (claims· : Claims) where
       abbrev at1 : Typed.TF T5 O4
       at1 = λ Ψ. Typed.pass T5 T7 s3 (at0 Ψ)
 
-      abbrev at2 : Typed.TF T10 O4
+      abbrev at2 : Typed.TF T9 O4
       at2 = Typed.atExit 1 O4
 
-      abbrev at3 : Typed.TF T9 O4
-      at3 = λ Ψ. Typed.pass T9 T10 s6 (at2 Ψ)
+      abbrev at3 : Typed.TF T8 O4
+      at3 = λ Ψ. Typed.pass T8 T9 s5 (at2 Ψ)
 
-      abbrev at4 : Typed.TF T8 O4
-      at4 = λ Ψ. Typed.pass T8 T9 s5 (at3 Ψ)
+      abbrev at4 : Typed.TF T5 O4
+      at4 = λ Ψ. Typed.pass T5 T8 s4 (at3 Ψ)
 
       abbrev at5 : Typed.TF T5 O4
-      at5 = λ Ψ. Typed.pass T5 T8 s4 (at4 Ψ)
+      at5 = Scalar.Φcond T5 O4 11 (λ x. x) at1 at4
 
-      abbrev at6 : Typed.TF T5 O4
-      at6 = Scalar.Φcond T5 O4 12 (λ x. x) at1 at5
+      abbrev at6 : Typed.TF T29 O3
+      at6 = λ Ψ. Typed.ask s27 (Typed.pass T31 T32 s28 (Typed.atNext O3 Ψ))
 
-      abbrev at7 : Typed.TF T30 O3
-      at7 = λ Ψ. Typed.ask s28 (Typed.pass T32 T33 s29 (Typed.atNext O3 Ψ))
+      abbrev at7 : Typed.TF T29 O3
+      at7 = λ Ψ. at6 Ψ
 
-      abbrev at8 : Typed.TF T30 O3
-      at8 = λ Ψ. at7 Ψ
+      abbrev at8 : Typed.TF T26 O3
+      at8 = λ Ψ. Typed.ask s25 (at7 Ψ)
 
-      abbrev at9 : Typed.TF T27 O3
-      at9 = λ Ψ. Typed.ask s26 (at8 Ψ)
+      abbrev at9 : Typed.TF T26 O3
+      at9 = λ Ψ. at8 Ψ
 
-      abbrev at10 : Typed.TF T27 O3
+      abbrev at10 : Typed.TF T26 O3
       at10 = λ Ψ. at9 Ψ
 
-      abbrev at11 : Typed.TF T27 O3
-      at11 = λ Ψ. at10 Ψ
+      abbrev at11 : Typed.TF T25 O3
+      at11 = λ Ψ. Typed.give s22 (at10 Ψ)
 
-      abbrev at12 : Typed.TF T26 O3
-      at12 = λ Ψ. Typed.give s23 (at11 Ψ)
+      abbrev at12 : Typed.TF T23 O3
+      at12 = λ Ψ. Typed.both s21 (at11 Ψ)
 
-      abbrev at13 : Typed.TF T24 O3
-      at13 = λ Ψ. Typed.both s22 (at12 Ψ)
+      abbrev at13 : Typed.TF T23 O3
+      at13 = λ Ψ. at12 Ψ
 
-      abbrev at14 : Typed.TF T24 O3
-      at14 = λ Ψ. at13 Ψ
+      abbrev at14 : Typed.TF T22 O3
+      at14 = λ Ψ. Typed.pass T22 T23 s19 (at13 Ψ)
 
-      abbrev at15 : Typed.TF T23 O3
-      at15 = λ Ψ. Typed.pass T23 T24 s20 (at14 Ψ)
+      abbrev at15 : Typed.TF T21 O3
+      at15 = λ Ψ. Typed.pass T21 T22 s18 (at14 Ψ)
 
-      abbrev at16 : Typed.TF T22 O3
-      at16 = λ Ψ. Typed.pass T22 T23 s19 (at15 Ψ)
+      abbrev at16 : Typed.TF T20 O3
+      at16 = λ Ψ. Typed.pass T20 T21 s17 (at15 Ψ)
 
-      abbrev at17 : Typed.TF T21 O3
-      at17 = λ Ψ. Typed.pass T21 T22 s18 (at16 Ψ)
+      abbrev at17 : Typed.TF T19 O3
+      at17 = λ Ψ. Typed.both s16 (at16 Ψ)
 
-      abbrev at18 : Typed.TF T20 O3
-      at18 = λ Ψ. Typed.both s17 (at17 Ψ)
+      abbrev at18 : Typed.TF T17 O3
+      at18 = λ Ψ. Typed.give s15 (at17 Ψ)
 
-      abbrev at19 : Typed.TF T18 O3
-      at19 = λ Ψ. Typed.give s16 (at18 Ψ)
+      abbrev at19 : Typed.TF T17 O3
+      at19 = λ Ψ. at18 Ψ
 
-      abbrev at20 : Typed.TF T18 O3
-      at20 = λ Ψ. at19 Ψ
+      abbrev at20 : Typed.TF T16 O3
+      at20 = λ Ψ. Typed.ask s13 (at19 Ψ)
 
-      abbrev at21 : Typed.TF T17 O3
-      at21 = λ Ψ. Typed.ask s14 (at20 Ψ)
+      abbrev at21 : Typed.TF T14 O3
+      at21 = λ Ψ. Typed.give s12 (at20 Ψ)
 
-      abbrev at22 : Typed.TF T15 O3
-      at22 = λ Ψ. Typed.give s13 (at21 Ψ)
+      abbrev at22 : Typed.TF T14 O3
+      at22 = λ Ψ. at21 Ψ
 
-      abbrev at23 : Typed.TF T15 O3
-      at23 = λ Ψ. at22 Ψ
+      abbrev at23 : Typed.TF T13 O3
+      at23 = λ Ψ. Typed.pass T13 T14 s10 (at22 Ψ)
 
-      abbrev at24 : Typed.TF T14 O3
-      at24 = λ Ψ. Typed.pass T14 T15 s11 (at23 Ψ)
+      abbrev at24 : Typed.TF T12 O3
+      at24 = λ Ψ. Typed.ask s9 (at23 Ψ)
 
-      abbrev at25 : Typed.TF T13 O3
-      at25 = λ Ψ. Typed.ask s10 (at24 Ψ)
+      abbrev at25 : Typed.TF T11 O3
+      at25 = λ Ψ. Typed.ask s8 (at24 Ψ)
 
-      abbrev at26 : Typed.TF T12 O3
-      at26 = λ Ψ. Typed.ask s9 (at25 Ψ)
+      abbrev at26 : Typed.TF T10 O3
+      at26 = λ Ψ. Typed.both s7 (at25 Ψ)
 
-      abbrev at27 : Typed.TF T11 O3
-      at27 = λ Ψ. Typed.both s8 (at26 Ψ)
+      abbrev at27 : Typed.TF T6 O3
+      at27 = λ Ψ. Typed.both s6 (at26 Ψ)
 
-      abbrev at28 : Typed.TF T6 O3
-      at28 = λ Ψ. Typed.both s7 (at27 Ψ)
+      abbrev at28 : Typed.TF T5 O3
+      at28 = λ Ψ. at5 (Typed.wantNext T6 O3 (at27 Ψ) Ψ)
 
-      abbrev at29 : Typed.TF T5 O3
-      at29 = λ Ψ. at6 (Typed.wantNext T6 O3 (at28 Ψ) Ψ)
+      abbrev at29 : Typed.TF T3 O3
+      at29 = λ Ψ. Typed.ask s2 (at28 Ψ)
 
-      abbrev at30 : Typed.TF T3 O3
-      at30 = λ Ψ. Typed.ask s2 (at29 Ψ)
+      abbrev at30 : Typed.TF T3 O2
+      at30 = Typed.LoopBy T3 O2 put0 (λ u vs. Inv·0 (Row.get 1 (T3 .locals) u .now) (Row.get 2 (T3 .locals) u .now) (Row.get 3 (T3 .locals) u .now) (Row.get 4 (T3 .locals) u) (Row.get 5 (T3
+          .locals) u) (Row.get 6 (T3 .locals) u .now) (Row.get 7 (T3 .locals) u .now) (Row.get 8 (T3 .locals) u) (vs .0) (vs .1) (vs .2)) (λ u vs. μ·0 (Row.get 1 (T3 .locals) u .now)
+          (Row.get 2 (T3 .locals) u .now) (Row.get 3 (T3 .locals) u .now) (Row.get 4 (T3 .locals) u) (Row.get 5 (T3 .locals) u) (Row.get 6 (T3 .locals) u .now) (Row.get 7 (T3 .locals) u
+          .now) (Row.get 8 (T3 .locals) u) (vs .0) (vs .1) (vs .2)) at29
 
-      abbrev at31 : Typed.TF T3 O2
-      at31 = Typed.LoopBy T3 O2 put0 (λ u vs. Inv·0 (Row.get 1 (T3 .locals) u .now) (Row.get 2 (T3 .locals) u .now) (Row.get 3 (T3 .locals) u .now) (Row.get 4 (T3 .locals) u) (Row.get 5 (T3
-          .locals) u) (Row.get 6 (T3 .locals) u) (Row.get 7 (T3 .locals) u .now) (Row.get 8 (T3 .locals) u .now) (Row.get 9 (T3 .locals) u) (vs .0) (vs .1) (vs .2)) (λ u vs. μ·0 (Row.get 1
-          (T3 .locals) u .now) (Row.get 2 (T3 .locals) u .now) (Row.get 3 (T3 .locals) u .now) (Row.get 4 (T3 .locals) u) (Row.get 5 (T3 .locals) u) (Row.get 6 (T3 .locals) u) (Row.get 7
-          (T3 .locals) u .now) (Row.get 8 (T3 .locals) u .now) (Row.get 9 (T3 .locals) u) (vs .0) (vs .1) (vs .2)) at30
+      abbrev at31 : Typed.TF T3 O1
+      at31 = λ Ψ. at30 (Typed.inBlock O1 Ψ)
 
-      abbrev at32 : Typed.TF T3 O1
-      at32 = λ Ψ. at31 (Typed.inBlock O1 Ψ)
+      abbrev at32 : Typed.TF T35 O0
+      at32 = Typed.atRet O0
 
-      abbrev at33 : Typed.TF T36 O0
-      at33 = Typed.atRet O0
+      abbrev at33 : Typed.TF T34 O0
+      at33 = λ Ψ. Typed.pass T34 T35 s31 (at32 Ψ)
 
-      abbrev at34 : Typed.TF T35 O0
-      at34 = λ Ψ. Typed.pass T35 T36 s32 (at33 Ψ)
+      abbrev at34 : Typed.TF T33 O0
+      at34 = λ Ψ. Typed.pass T33 T34 s30 (at33 Ψ)
 
-      abbrev at35 : Typed.TF T34 O0
-      at35 = λ Ψ. Typed.pass T34 T35 s31 (at34 Ψ)
+      abbrev at35 : Typed.TF T4 O0
+      at35 = λ Ψ. Typed.pass T4 T33 s29 (at34 Ψ)
 
-      abbrev at36 : Typed.TF T4 O0
-      at36 = λ Ψ. Typed.pass T4 T34 s30 (at35 Ψ)
+      abbrev at36 : Typed.TF T3 O0
+      at36 = λ Ψ. at31 (Typed.wantNext T4 O0 (at35 Ψ) Ψ)
 
-      abbrev at37 : Typed.TF T3 O0
-      at37 = λ Ψ. at32 (Typed.wantNext T4 O0 (at36 Ψ) Ψ)
+      abbrev at37 : Typed.TF T2 O0
+      at37 = λ Ψ. Typed.pass T2 T3 s1 (at36 Ψ)
 
-      abbrev at38 : Typed.TF T2 O0
-      at38 = λ Ψ. Typed.pass T2 T3 s1 (at37 Ψ)
-
-      abbrev at39 : Typed.TF T0 O0
-      at39 = λ Ψ. Typed.give s0 (at38 Ψ)
+      abbrev at38 : Typed.TF T0 O0
+      at38 = λ Ψ. Typed.give s0 (at37 Ψ)
 
       abbrev pub Φ : Typed.TF T0 O0
-      Φ = at39
+      Φ = at38
 
       module _ {M : Type 1} (𝓤 : URA.URA M) (H : Wp.Heap 𝓤) (A : Atoms.Atoms 𝓤) (W : Kit.Given 𝓤 H A) (𝓣 : Wp.Tables 𝓤 H) where
         abbrev Knowns : Type 1
@@ -771,57 +783,70 @@ module _ (claims· : Claims) where
         z3 = Row.lease (κs .0) (qs .0) ∷ Row.lease (κs .1 .0) (qs .1 .0) ∷ Row.lease (κs .1 .1 .0) (qs .1 .1 .0) ∷ Row.lease (κs .1 .1 .1 .0) (qs .1 .1 .1 .0) ∷ Row.off ∷ Row.dead ∷
             Row.alive ∷ []
 
+        abbrev g12 : List.List Row.Entry
+        g12 = (0, L.gunit) ∷ (1, r11) ∷ (2, r1) ∷ (3, r2) ∷ (4, L.h64) ∷ (5, r13) ∷ (6, Relend.mslice-owed L.u64 y4 3 5 (Row.lease (κs .1 .1 .1 .0) (qs .1 .1 .1 .0))) ∷ (7, r3) ∷ (8, L.h64)
+            ∷ (9, L.h64) ∷ (10, S.here) ∷ (11, L.gbool) ∷ (12, L.gunit) ∷ (13, L.g64) ∷ (14, L.h64) ∷ (15, r9) ∷ []
+
         abbrev g13 : List.List Row.Entry
-        g13 = (0, L.gunit) ∷ (1, r11) ∷ (2, r1) ∷ (3, r2) ∷ (4, L.h64) ∷ (5, r9) ∷ (6, r9) ∷ (7, Relend.mslice-owed L.u64 y4 3 5 (Row.lease (κs .1 .1 .1 .0) (qs .1 .1 .1 .0))) ∷ (8, r3) ∷
-            (9, L.h64) ∷ (10, L.h64) ∷ (11, S.here) ∷ (12, L.gbool) ∷ (13, L.gunit) ∷ (14, L.g64) ∷ (15, L.h64) ∷ []
+        g13 = (0, L.gunit) ∷ (1, r11) ∷ (2, r1) ∷ (3, r2) ∷ (4, L.h64) ∷ (5, r13) ∷ (6, Relend.mslice-owed L.u64 y4 3 5 (Row.lease (κs .1 .1 .1 .0) (qs .1 .1 .1 .0))) ∷ (7, r3) ∷ (8, L.h64)
+            ∷ (9, L.h64) ∷ (10, S.here) ∷ (11, L.gbool) ∷ (12, L.gunit) ∷ (13, L.g64) ∷ (14, L.h64) ∷ (15, r12) ∷ []
 
-        abbrev g16 : List.List Row.Entry
-        g16 = (0, L.gunit) ∷ (1, r11) ∷ (2, r1) ∷ (3, r2) ∷ (4, L.h64) ∷ (5, r9) ∷ (6, r9) ∷ (7, Relend.mslice-owed L.u64 y4 3 5 (Row.lease (κs .1 .1 .1 .0) (qs .1 .1 .1 .0))) ∷ (
-          8,
-          Rows'.mref-owed (Array'.Array L.u64 32) y2 4 6 (Row.lease (κs .1 .1 .1 .1 .0) (qs .1 .1 .1 .1 .0)),
-        ) ∷ (9, L.h64) ∷ (10, L.h64) ∷ (11, S.here) ∷ (12, L.gbool) ∷ (13, L.gunit) ∷
-            (14, L.g64) ∷ (15, L.h64) ∷ []
+        abbrev g15 : List.List Row.Entry
+        g15 = (0, L.gunit) ∷ (1, r11) ∷ (2, r1) ∷ (3, r2) ∷ (4, L.h64) ∷ (5, r13) ∷ (6, Relend.mslice-owed L.u64 y4 3 5 (Row.lease (κs .1 .1 .1 .0) (qs .1 .1 .1 .0))) ∷ (
+          7,
+          Rows'.mref-owed
+              (Array'.Array L.u64 32) y2 4 6 (Row.lease (κs .1 .1 .1 .1 .0) (qs .1 .1 .1 .1 .0)),
+        ) ∷ (8, L.h64) ∷ (9, L.h64) ∷ (10, S.here) ∷ (11, L.gbool) ∷ (12, L.gunit) ∷ (13, L.g64) ∷ (
+          14,
+          L.h64,
+        ) ∷ (15, r12) ∷ []
 
-        abbrev g18 : List.List Row.Entry
-        g18 = (0, L.gunit) ∷ (1, r11) ∷ (2, r1) ∷ (3, r2) ∷ (4, L.h64) ∷ (5, r9) ∷ (6, r9) ∷ (7, Relend.mslice-owed L.u64 y4 3 5 (Row.lease (κs .1 .1 .1 .0) (qs .1 .1 .1 .0))) ∷ (
-          8,
-          Rows'.mref-owed (Array'.Array L.u64 32) y2 4 6 (Row.lease (κs .1 .1 .1 .1 .0) (qs .1 .1 .1 .1 .0)),
-        ) ∷ (9, L.h64) ∷ (10, L.h64) ∷ (11, S.here) ∷ (12, L.gbool) ∷ (13, L.hunit) ∷
-            (14, L.g64) ∷ (15, L.h64) ∷ []
+        abbrev g17 : List.List Row.Entry
+        g17 = (0, L.gunit) ∷ (1, r11) ∷ (2, r1) ∷ (3, r2) ∷ (4, L.h64) ∷ (5, r13) ∷ (6, Relend.mslice-owed L.u64 y4 3 5 (Row.lease (κs .1 .1 .1 .0) (qs .1 .1 .1 .0))) ∷ (
+          7,
+          Rows'.mref-owed
+              (Array'.Array L.u64 32) y2 4 6 (Row.lease (κs .1 .1 .1 .1 .0) (qs .1 .1 .1 .1 .0)),
+        ) ∷ (8, L.h64) ∷ (9, L.h64) ∷ (10, S.here) ∷ (11, L.gbool) ∷ (12, L.hunit) ∷ (13, L.g64) ∷ (
+          14,
+          L.h64,
+        ) ∷ (15, r12) ∷ []
+
+        abbrev g19 : List.List Row.Entry
+        g19 = (0, L.gunit) ∷ (1, r11) ∷ (2, r1) ∷ (3, r2) ∷ (4, L.h64) ∷ (5, r13) ∷ (6, Relend.mslice-owed L.u64 y4 3 5 (Row.lease (κs .1 .1 .1 .0) (qs .1 .1 .1 .0))) ∷ (
+          7,
+          Rows'.mref-owed
+              (Array'.Array L.u64 32) y2 4 6 (Row.lease (κs .1 .1 .1 .1 .0) (qs .1 .1 .1 .1 .0)),
+        ) ∷ (8, L.h64) ∷ (9, L.h64) ∷ (10, r15) ∷ (11, L.gbool) ∷ (12, L.hunit) ∷ (13, L.g64) ∷ (
+          14,
+          L.h64,
+        ) ∷ (15, r12) ∷ []
 
         abbrev g20 : List.List Row.Entry
-        g20 = (0, L.gunit) ∷ (1, r11) ∷ (2, r1) ∷ (3, r2) ∷ (4, L.h64) ∷ (5, r9) ∷ (6, r9) ∷ (7, Relend.mslice-owed L.u64 y4 3 5 (Row.lease (κs .1 .1 .1 .0) (qs .1 .1 .1 .0))) ∷ (
-          8,
-          Rows'.mref-owed (Array'.Array L.u64 32) y2 4 6 (Row.lease (κs .1 .1 .1 .1 .0) (qs .1 .1 .1 .1 .0)),
-        ) ∷ (9, L.h64) ∷ (10, L.h64) ∷ (11, r14) ∷ (12, L.gbool) ∷ (13, L.hunit) ∷ (
+        g20 = (0, L.gunit) ∷ (1, r11) ∷ (2, r1) ∷ (3, r2) ∷ (4, L.h64) ∷ (5, r13) ∷ (6, Relend.mslice-owed L.u64 y4 3 5 (Row.lease (κs .1 .1 .1 .0) (qs .1 .1 .1 .0))) ∷ (
+          7,
+          Rows'.mref-owed
+              (Array'.Array L.u64 32) y2 4 6 (Row.lease (κs .1 .1 .1 .1 .0) (qs .1 .1 .1 .1 .0)),
+        ) ∷ (8, L.h64) ∷ (9, L.h64) ∷ (10, r15) ∷ (11, L.gbool) ∷ (12, L.gunit) ∷ (13, L.g64) ∷ (
           14,
-          L.g64,
-        ) ∷ (15, L.h64) ∷ []
+          L.h64,
+        ) ∷ (15, r12) ∷ []
 
         abbrev g21 : List.List Row.Entry
-        g21 = (0, L.gunit) ∷ (1, r11) ∷ (2, r1) ∷ (3, r2) ∷ (4, L.h64) ∷ (5, r9) ∷ (6, r9) ∷ (7, Relend.mslice-owed L.u64 y4 3 5 (Row.lease (κs .1 .1 .1 .0) (qs .1 .1 .1 .0))) ∷ (
-          8,
-          Rows'.mref-owed (Array'.Array L.u64 32) y2 4 6 (Row.lease (κs .1 .1 .1 .1 .0) (qs .1 .1 .1 .1 .0)),
-        ) ∷ (9, L.h64) ∷ (10, L.h64) ∷ (11, r14) ∷ (12, L.gbool) ∷ (13, L.gunit) ∷ (
+        g21 = (0, L.gunit) ∷ (1, r11) ∷ (2, r1) ∷ (3, r2) ∷ (4, L.h64) ∷ (5, r13) ∷ (6, Relend.mslice-owed L.u64 y4 3 5 (Row.lease (κs .1 .1 .1 .0) (qs .1 .1 .1 .0))) ∷ (
+          7,
+          Rows'.mref-owed
+              (Array'.Array L.u64 32) y2 4 6 (Row.lease (κs .1 .1 .1 .1 .0) (qs .1 .1 .1 .1 .0)),
+        ) ∷ (8, L.h64) ∷ (9, L.h64) ∷ (10, r15) ∷ (11, L.gbool) ∷ (12, L.gunit) ∷ (13, L.g64) ∷ (
           14,
           L.g64,
-        ) ∷ (15, L.h64) ∷ []
+        ) ∷ (15, r12) ∷ []
 
         abbrev g22 : List.List Row.Entry
-        g22 = (0, L.gunit) ∷ (1, r11) ∷ (2, r1) ∷ (3, r2) ∷ (4, L.h64) ∷ (5, r9) ∷ (6, r9) ∷ (7, Relend.mslice-owed L.u64 y4 3 5 (Row.lease (κs .1 .1 .1 .0) (qs .1 .1 .1 .0))) ∷ (
-          8,
-          Rows'.mref-owed (Array'.Array L.u64 32) y2 4 6 (Row.lease (κs .1 .1 .1 .1 .0) (qs .1 .1 .1 .1 .0)),
-        ) ∷ (9, L.h64) ∷ (10, L.h64) ∷ (11, r14) ∷ (12, L.gbool) ∷ (13, L.gunit) ∷ (
-          14,
-          L.g64,
-        ) ∷ (15, L.g64) ∷ []
-
-        abbrev g23 : List.List Row.Entry
-        g23 = (0, L.gunit) ∷ (1, r11) ∷ (2, r1) ∷ (3, r2) ∷ (4, L.h64) ∷ (5, r9) ∷ (6, r9) ∷ (7, r7) ∷ (
-          8,
-          Rows'.mref-owed (Array'.Array L.u64 32) y2 4 6 (Row.lease (κs .1 .1 .1 .1 .0) (qs
-              .1 .1 .1 .1 .0)),
-        ) ∷ (9, L.h64) ∷ (10, L.h64) ∷ (11, r14) ∷ (12, L.gbool) ∷ (13, L.gunit) ∷ (14, L.g64) ∷ (15, L.g64) ∷ []
+        g22 = (0, L.gunit) ∷ (1, r11) ∷ (2, r1) ∷ (3, r2) ∷ (4, L.h64) ∷ (5, r13) ∷ (6, r7) ∷ (
+          7,
+          Rows'.mref-owed (Array'.Array L.u64 32) y2 4 6 (Row.lease (κs .1 .1 .1 .1 .0) (qs .1 .1 .1
+              .1 .0)),
+        ) ∷ (8, L.h64) ∷ (9, L.h64) ∷ (10, r15) ∷ (11, L.gbool) ∷ (12, L.gunit) ∷ (13, L.g64) ∷ (14, L.g64) ∷ (15, r12) ∷ []
 
         abbrev G0 : Row.Cx
         G0 = record { locals = List._++_ t0 t1; slots = z0 }
@@ -851,10 +876,10 @@ module _ (claims· : Claims) where
         G8 = record { locals = List._++_ t6 t1; slots = z0 }
 
         abbrev G9 : Row.Cx
-        G9 = record { locals = List._++_ t7 t1; slots = z0 }
+        G9 = record { locals = List._++_ t4 t1; slots = z0 }
 
         abbrev G10 : Row.Cx
-        G10 = record { locals = List._++_ t4 t1; slots = z0 }
+        G10 = record { locals = List._++_ t7 t1; slots = z0 }
 
         abbrev G11 : Row.Cx
         G11 = record { locals = List._++_ t8 t1; slots = z0 }
@@ -869,94 +894,91 @@ module _ (claims· : Claims) where
         G14 = record { locals = List._++_ t11 t1; slots = z0 }
 
         abbrev G15 : Row.Cx
-        G15 = record { locals = List._++_ t12 t1; slots = z0 }
-
-        abbrev G16 : Row.Cx
-        G16 = record {
-          locals = List._++_ t12 t1;
+        G15 = record {
+          locals = List._++_ t11 t1;
           slots = Row.lease (κs .0) (qs .0) ∷ Row.lease (κs .1 .0) (qs .1 .0) ∷ Row.lease (κs .1 .1 .0) (qs .1 .1 .0) ∷ Row.lease (κs .1 .1 .1 .0)
               (qs .1 .1 .1 .0) ∷ Row.lease (κs .1 .1 .1 .1 .0) (qs .1 .1 .1 .1 .0) ∷ Row.alive ∷ Row.off ∷ [];
         }
+
+        abbrev G16 : Row.Cx
+        G16 = record { locals = List._++_ g12 t1; slots = z1 }
 
         abbrev G17 : Row.Cx
         G17 = record { locals = List._++_ g13 t14; slots = z1 }
 
         abbrev G18 : Row.Cx
-        G18 = record { locals = List._++_ g13 t15; slots = z1 }
-
-        abbrev G19 : Row.Cx
-        G19 = record {
-          locals = List._++_ g13 t15;
+        G18 = record {
+          locals = List._++_ g13 t14;
           slots = Row.lease (κs .0) (qs .0) ∷ Row.lease (κs .1 .0) (qs .1 .0) ∷ Row.lease (κs .1 .1 .0) (qs .1 .1 .0) ∷ Row.off ∷ Row.lease (κs .1
               .1 .1 .1 .0) (qs .1 .1 .1 .1 .0) ∷ Row.alive ∷ Row.alive ∷ [];
         }
 
+        abbrev G19 : Row.Cx
+        G19 = record { locals = List._++_ g15 t16; slots = z2 }
+
         abbrev G20 : Row.Cx
-        G20 = record { locals = List._++_ g16 t17; slots = z2 }
+        G20 = record { locals = List._++_ g17 t18; slots = z2 }
 
         abbrev G21 : Row.Cx
-        G21 = record { locals = List._++_ g18 t19; slots = z2 }
+        G21 = record { locals = List._++_ g19 t18; slots = z2 }
 
         abbrev G22 : Row.Cx
-        G22 = record { locals = List._++_ g20 t19; slots = z2 }
+        G22 = record { locals = List._++_ g20 t18; slots = z2 }
 
         abbrev G23 : Row.Cx
-        G23 = record { locals = List._++_ g21 t19; slots = z2 }
+        G23 = record { locals = List._++_ g21 t18; slots = z2 }
 
         abbrev G24 : Row.Cx
-        G24 = record { locals = List._++_ g22 t19; slots = z2 }
-
-        abbrev G25 : Row.Cx
-        G25 = record {
-          locals = List._++_ g22 t19;
+        G24 = record {
+          locals = List._++_ g21 t18;
           slots = Row.lease (κs .0) (qs .0) ∷ Row.lease (κs .1 .0) (qs .1 .0) ∷ Row.lease (κs .1 .1 .0) (qs .1 .1 .0) ∷ Row.off ∷ Row.off ∷ Row.dead
               ∷ Row.alive ∷ [];
         }
 
+        abbrev G25 : Row.Cx
+        G25 = record { locals = List._++_ g22 t23; slots = z3 }
+
         abbrev G26 : Row.Cx
-        G26 = record { locals = List._++_ g23 t24; slots = z3 }
+        G26 = record { locals = List._++_ g22 t23; slots = z3 }
 
         abbrev G27 : Row.Cx
-        G27 = record { locals = List._++_ g23 t24; slots = z3 }
-
-        abbrev G28 : Row.Cx
-        G28 = record {
-          locals = List._++_ g23 t24;
+        G27 = record {
+          locals = List._++_ g22 t23;
           slots = Row.lease (κs .0) (qs .0) ∷ Row.lease (κs .1 .0) (qs .1 .0) ∷ Row.lease (κs .1 .1 .0) (qs .1 .1 .0) ∷ Row.lease (κs .1 .1 .1 .0)
               (qs .1 .1 .1 .0) ∷ Row.off ∷ Row.off ∷ Row.alive ∷ [];
         }
 
-        abbrev G29 : Row.Cx
-        G29 = record {
-          locals = List._++_ g23 t24;
+        abbrev G28 : Row.Cx
+        G28 = record {
+          locals = List._++_ g22 t23;
           slots = Row.lease (κs .0) (qs .0) ∷ Row.lease (κs .1 .0) (qs .1 .0) ∷ Row.lease (κs .1 .1 .0) (qs .1 .1 .0) ∷ Row.lease (κs .1 .1 .1 .0)
               (qs .1 .1 .1 .0) ∷ Row.off ∷ Row.off ∷ Row.dead ∷ [];
         }
 
-        abbrev G30 : Row.Cx
-        G30 = record {
-          locals = List._++_ t8 t1;
+        abbrev G29 : Row.Cx
+        G29 = record {
+          locals = List._++_ t7 t1;
           slots = Row.lease (κs .0) (qs .0) ∷ Row.lease (κs .1 .0) (qs .1 .0) ∷ Row.lease (κs .1 .1 .0) (qs .1 .1 .0) ∷ Row.lease (κs .1 .1 .1 .0) (qs
               .1 .1 .1 .0) ∷ Row.lease (κs .1 .1 .1 .1 .0) (qs .1 .1 .1 .1 .0) ∷ Row.off ∷ Row.dead ∷ [];
         }
 
+        abbrev G30 : Row.Cx
+        G30 = record { locals = List._++_ t7 t1; slots = z0 }
+
         abbrev G31 : Row.Cx
-        G31 = record { locals = List._++_ t8 t1; slots = z0 }
+        G31 = record { locals = List._++_ t7 t1; slots = z0 }
 
         abbrev G32 : Row.Cx
-        G32 = record { locals = List._++_ t8 t1; slots = z0 }
+        G32 = record { locals = List._++_ t3 t1; slots = z0 }
 
         abbrev G33 : Row.Cx
-        G33 = record { locals = List._++_ t3 t1; slots = z0 }
+        G33 = record { locals = List._++_ t24 t1; slots = z0 }
 
         abbrev G34 : Row.Cx
         G34 = record { locals = List._++_ t25 t1; slots = z0 }
 
         abbrev G35 : Row.Cx
-        G35 = record { locals = List._++_ t26 t1; slots = z0 }
-
-        abbrev G36 : Row.Cx
-        G36 = record { locals = List._++_ t2 t1; slots = z0 }
+        G35 = record { locals = List._++_ t2 t1; slots = z0 }
 
         abbrev Δ0 : Typed.Outs
         Δ0 = record { next = Option.none; exits = []; returns = Option.some G1 }
@@ -982,89 +1004,86 @@ module _ (claims· : Claims) where
           d0 = Typed.t-skip 𝓤 H A W 𝓣 E Δ4 tt
 
           d1 : Typed.Typed 𝓤 H A 𝓣 E G5 b2 Δ4 at1
-          d1 = Typed.g-pre 𝓤 H A W 𝓣 E G5 G7 b2 Δ4 (Typed.pass T5 T7 s3) at0 (Scalar.g-room 𝓤 H A W E G5 12 Y.tyBool (Scalar.room-sc 𝓤 H A W Row.sBool)) d0
+          d1 = Typed.g-pre 𝓤 H A W 𝓣 E G5 G7 b2 Δ4 (Typed.pass T5 T7 s3) at0 (Scalar.g-room 𝓤 H A W E G5 11 Y.tyBool (Scalar.room-sc 𝓤 H A W Row.sBool)) d0
 
-          d2 : Typed.Typed 𝓤 H A 𝓣 E G10 b3 Δ4 at2
+          d2 : Typed.Typed 𝓤 H A 𝓣 E G9 b3 Δ4 at2
           d2 = Typed.t-exit 𝓤 H A W 𝓣 E 1 Δ4 tt
 
-          d3 : Typed.Typed 𝓤 H A 𝓣 E G9 b3 Δ4 at3
-          d3 = Typed.g-pre 𝓤 H A W 𝓣 E G9 G10 b3 Δ4 (Typed.pass T9 T10 s6) at2 (Scalar.g-room 𝓤 H A W E G9 12 Y.tyBool (Scalar.room-sc 𝓤 H A W Row.sBool)) d2
+          d3 : Typed.Typed 𝓤 H A 𝓣 E G8 b3 Δ4 at3
+          d3 = Typed.g-pre 𝓤 H A W 𝓣 E G8 G9 b3 Δ4 (Typed.pass T8 T9 s5) at2 (Scalar.g-room 𝓤 H A W E G8 11 Y.tyBool (Scalar.room-sc 𝓤 H A W Row.sBool)) d2
 
-          d4 : Typed.Typed 𝓤 H A 𝓣 E G8 b3 Δ4 at4
-          d4 = Typed.g-pre 𝓤 H A W 𝓣 E G8 G9 b3 Δ4 (Typed.pass T8 T9 s5) at3 (Scalar.g-room 𝓤 H A W E G8 6 NotAliveGenerationCounts′.mir (Local.room-whole 𝓤 H A W (Declared.row
-              NotAliveGenerationCounts.the-type) NotAliveGenerationCounts′.mir refl)) d3
+          d4 : Typed.Typed 𝓤 H A 𝓣 E G5 b3 Δ4 at4
+          d4 = Typed.g-pre 𝓤 H A W 𝓣 E G5 G8 b3 Δ4 (Typed.pass T5 T8 s4) at3 (Scalar.g-room 𝓤 H A W E G5 5 Ranking′.mir (Local.room-whole 𝓤 H A W (Declared.row Ranking.the-type)
+              Ranking′.mir refl)) d3
 
-          d5 : Typed.Typed 𝓤 H A 𝓣 E G5 b3 Δ4 at5
-          d5 = Typed.g-pre 𝓤 H A W 𝓣 E G5 G8 b3 Δ4 (Typed.pass T5 T8 s4) at4 (Scalar.g-room 𝓤 H A W E G5 5 NotAliveGenerationCounts′.mir (Local.room-whole 𝓤 H A W (Declared.row
-              NotAliveGenerationCounts.the-type) NotAliveGenerationCounts′.mir refl)) d4
+          d5 : Typed.Typed 𝓤 H A 𝓣 E G5 b4 Δ4 at5
+          d5 = Scalar.t-cond 𝓤 H A W E 𝓣 G5 11 (λ x. x) b2 b3 Δ4 at1 at4 (Scalar.reads-sc 𝓤 H A W Row.sBool) refl d1 d4
 
-          d6 : Typed.Typed 𝓤 H A 𝓣 E G5 b4 Δ4 at6
-          d6 = Scalar.t-cond 𝓤 H A W E 𝓣 G5 12 (λ x. x) b2 b3 Δ4 at1 at5 (Scalar.reads-sc 𝓤 H A W Row.sBool) refl d1 d5
-
-          d7 : Typed.Typed 𝓤 H A 𝓣 E G31 b13 Δ3 at7
-          d7 = Typed.s-typed 𝓤 H A W 𝓣 E G31 b13 Δ3 (λ Ψ. Typed.ask s28 (Typed.pass T32 T33 s29 Ψ)) tt (Typed.g-post 𝓤 H A W 𝓣 E G31 G32 G33 b13 (Typed.ask s28) (Typed.pass T32 T33 s29)
-              (Scalar.t-op2 𝓤 H A W E 𝓣 G31 (Y.add Y.unsigned) (Scalar.oAt 9 (Y.tyInt Y.w64) (Row.valS (Row.sInt Y.w64))) (Scalar.oInt Y.w64 1) 9 L.h64 (Y.tyInt Y.w64) (Row.valS (Row.sInt
+          d6 : Typed.Typed 𝓤 H A 𝓣 E G30 b13 Δ3 at6
+          d6 = Typed.s-typed 𝓤 H A W 𝓣 E G30 b13 Δ3 (λ Ψ. Typed.ask s27 (Typed.pass T31 T32 s28 Ψ)) tt (Typed.g-post 𝓤 H A W 𝓣 E G30 G31 G32 b13 (Typed.ask s27) (Typed.pass T31 T32 s28)
+              (Scalar.t-op2 𝓤 H A W E 𝓣 G30 (Y.add Y.unsigned) (Scalar.oAt 8 (Y.tyInt Y.w64) (Row.valS (Row.sInt Y.w64))) (Scalar.oInt Y.w64 1) 8 L.h64 (Y.tyInt Y.w64) (Row.valS (Row.sInt
               Y.w64)) (Row.sInt Y.w64 .of) (Scalar.reads-sc 𝓤 H A W (Row.sInt Y.w64), refl) tt (Scalar.room-sc 𝓤 H A W (Row.sInt Y.w64)) (Scalar.holds-sc 𝓤 H A W (Row.sInt Y.w64)) refl (λ
-              u. refl) λ u. tt) (Scalar.g-room 𝓤 H A W E G32 10 (Y.tyInt Y.w64) (Scalar.room-sc 𝓤 H A W (Row.sInt Y.w64))))
+              u. refl) λ u. tt) (Scalar.g-room 𝓤 H A W E G31 9 (Y.tyInt Y.w64) (Scalar.room-sc 𝓤 H A W (Row.sInt Y.w64))))
 
-          d8 : Typed.Typed 𝓤 H A 𝓣 E G30 b13 Δ3 at8
-          d8 = Typed.g-pre 𝓤 H A W 𝓣 E G30 G31 b13 Δ3 (λ Ψ. Ψ) at7 (Lifetime.g-forget 𝓤 H A W E G30 6 Row.dead refl) d7
+          d7 : Typed.Typed 𝓤 H A 𝓣 E G29 b13 Δ3 at7
+          d7 = Typed.g-pre 𝓤 H A W 𝓣 E G29 G30 b13 Δ3 (λ Ψ. Ψ) at6 (Lifetime.g-forget 𝓤 H A W E G29 6 Row.dead refl) d6
 
-          d9 : Typed.Typed 𝓤 H A 𝓣 E G29 b13 Δ3 at9
-          d9 = Typed.g-pre 𝓤 H A W 𝓣 E G29 G30 b13 Δ3 (Typed.ask s26) at8 (Reborrow.g-back-mref 𝓤 H A W E G29 18 8 4 6 (Array'.Array L.u64 32) y2 y3 (Row.lease (κs .1 .1 .1 .1 .0) (qs .1 .1
+          d8 : Typed.Typed 𝓤 H A 𝓣 E G28 b13 Δ3 at8
+          d8 = Typed.g-pre 𝓤 H A W 𝓣 E G28 G29 b13 Δ3 (Typed.ask s25) at7 (Reborrow.g-back-mref 𝓤 H A W E G28 17 7 4 6 (Array'.Array L.u64 32) y2 y3 (Row.lease (κs .1 .1 .1 .1 .0) (qs .1 .1
               .1 .1 .0)) (λ x. x) (λ x. x) (Reads.as-is 𝓤 H A r4) (Reads.as-is 𝓤 H A (Rows'.mref-owed (Array'.Array L.u64 32) y2 4 6 (Row.lease (κs .1 .1 .1 .1 .0) (qs .1 .1 .1 .1 .0))))
-              refl refl) d8
+              refl refl) d7
 
-          d10 : Typed.Typed 𝓤 H A 𝓣 E G28 b13 Δ3 at10
-          d10 = Typed.g-pre 𝓤 H A W 𝓣 E G28 G29 b13 Δ3 (λ Ψ. Ψ) at9 (Lifetime.g-end 𝓤 H A W E G28 6 refl) d9
+          d9 : Typed.Typed 𝓤 H A 𝓣 E G27 b13 Δ3 at9
+          d9 = Typed.g-pre 𝓤 H A W 𝓣 E G27 G28 b13 Δ3 (λ Ψ. Ψ) at8 (Lifetime.g-end 𝓤 H A W E G27 6 refl) d8
 
-          d11 : Typed.Typed 𝓤 H A 𝓣 E G27 b13 Δ3 at11
-          d11 = Typed.g-pre 𝓤 H A W 𝓣 E G27 G28 b13 Δ3 (λ Ψ. Ψ) at10 (Lifetime.g-forget 𝓤 H A W E G27 5 Row.dead refl) d10
+          d10 : Typed.Typed 𝓤 H A 𝓣 E G26 b13 Δ3 at10
+          d10 = Typed.g-pre 𝓤 H A W 𝓣 E G26 G27 b13 Δ3 (λ Ψ. Ψ) at9 (Lifetime.g-forget 𝓤 H A W E G26 5 Row.dead refl) d9
 
-          d12 : Typed.Typed 𝓤 H A 𝓣 E G26 b13 Δ3 at12
-          d12 = Typed.g-pre 𝓤 H A W 𝓣 E G26 G27 b13 Δ3 (Typed.give s23) at11 (Know.g-sl-known 𝓤 H A W (Referent.fInt Y.w64) E G26 7 3 y4 (Row.lease (κs .1 .1 .1 .0) (qs .1 .1 .1 .0)) 0 (λ
-              x. x) record { fits = Dec'.lit< tt } (Reads.as-is 𝓤 H A r7) refl tt) d11
+          d11 : Typed.Typed 𝓤 H A 𝓣 E G25 b13 Δ3 at11
+          d11 = Typed.g-pre 𝓤 H A W 𝓣 E G25 G26 b13 Δ3 (Typed.give s22) at10 (Know.g-sl-known 𝓤 H A W (Referent.fInt Y.w64) E G25 6 3 y4 (Row.lease (κs .1 .1 .1 .0) (qs .1 .1 .1 .0)) 0 (λ
+              x. x) record { fits = Dec'.lit< tt } (Reads.as-is 𝓤 H A r7) refl tt) d10
 
-          d13 : Typed.Typed 𝓤 H A 𝓣 E G25 b13 Δ3 at13
-          d13 = Typed.g-pre 𝓤 H A W 𝓣 E G25 G26 b13 Δ3 (Typed.both s22) at12 (Relend.g-back-sl 𝓤 H A W E L.u64 G25 17 7 3 5 y4 y5 (Row.lease (κs .1 .1 .1 .0) (qs .1 .1 .1 .0)) (λ x. x) (λ
-              x. x) (Reads.as-is 𝓤 H A (Mut.msleft L.u64 y5)) (Reads.as-is 𝓤 H A (Relend.mslice-owed L.u64 y4 3 5 (Row.lease (κs .1 .1 .1 .0) (qs .1 .1 .1 .0)))) refl refl) d12
+          d12 : Typed.Typed 𝓤 H A 𝓣 E G24 b13 Δ3 at12
+          d12 = Typed.g-pre 𝓤 H A W 𝓣 E G24 G25 b13 Δ3 (Typed.both s21) at11 (Relend.g-back-sl 𝓤 H A W E L.u64 G24 16 6 3 5 y4 y5 (Row.lease (κs .1 .1 .1 .0) (qs .1 .1 .1 .0)) (λ x. x) (λ
+              x. x) (Reads.as-is 𝓤 H A (Mut.msleft L.u64 y5)) (Reads.as-is 𝓤 H A (Relend.mslice-owed L.u64 y4 3 5 (Row.lease (κs .1 .1 .1 .0) (qs .1 .1 .1 .0)))) refl refl) d11
 
-          d14 : Typed.Typed 𝓤 H A 𝓣 E G24 b13 Δ3 at14
-          d14 = Typed.g-pre 𝓤 H A W 𝓣 E G24 G25 b13 Δ3 (λ Ψ. Ψ) at13 (Lifetime.g-end 𝓤 H A W E G24 5 refl) d13
+          d13 : Typed.Typed 𝓤 H A 𝓣 E G23 b13 Δ3 at13
+          d13 = Typed.g-pre 𝓤 H A W 𝓣 E G23 G24 b13 Δ3 (λ Ψ. Ψ) at12 (Lifetime.g-end 𝓤 H A W E G23 5 refl) d12
 
-          d15 : Typed.Typed 𝓤 H A 𝓣 E G23 b13 Δ3 at15
-          d15 = Typed.g-pre 𝓤 H A W 𝓣 E G23 G24 b13 Δ3 (Typed.pass T23 T24 s20) at14 (Scalar.g-room 𝓤 H A W E G23 15 (Y.tyInt Y.w64) (Scalar.room-sc 𝓤 H A W (Row.sInt Y.w64))) d14
+          d14 : Typed.Typed 𝓤 H A 𝓣 E G22 b13 Δ3 at14
+          d14 = Typed.g-pre 𝓤 H A W 𝓣 E G22 G23 b13 Δ3 (Typed.pass T22 T23 s19) at13 (Scalar.g-room 𝓤 H A W E G22 14 (Y.tyInt Y.w64) (Scalar.room-sc 𝓤 H A W (Row.sInt Y.w64))) d13
 
-          d16 : Typed.Typed 𝓤 H A 𝓣 E G22 b13 Δ3 at16
-          d16 = Typed.g-pre 𝓤 H A W 𝓣 E G22 G23 b13 Δ3 (Typed.pass T22 T23 s19) at15 (Scalar.g-room 𝓤 H A W E G22 13 Y.tyUnit (Scalar.room-sc 𝓤 H A W Row.sUnit)) d15
+          d15 : Typed.Typed 𝓤 H A 𝓣 E G21 b13 Δ3 at15
+          d15 = Typed.g-pre 𝓤 H A W 𝓣 E G21 G22 b13 Δ3 (Typed.pass T21 T22 s18) at14 (Scalar.g-room 𝓤 H A W E G21 12 Y.tyUnit (Scalar.room-sc 𝓤 H A W Row.sUnit)) d14
 
-          d17 : Typed.Typed 𝓤 H A 𝓣 E G21 b13 Δ3 at17
-          d17 = Typed.g-pre 𝓤 H A W 𝓣 E G21 G22 b13 Δ3 (Typed.pass T21 T22 s18) at16 (Scalar.g-room 𝓤 H A W E G21 11 S.ty (S.room 𝓤 H A W)) d16
+          d16 : Typed.Typed 𝓤 H A 𝓣 E G20 b13 Δ3 at16
+          d16 = Typed.g-pre 𝓤 H A W 𝓣 E G20 G21 b13 Δ3 (Typed.pass T20 T21 s17) at15 (Scalar.g-room 𝓤 H A W E G20 10 S.ty (S.room 𝓤 H A W)) d15
 
-          d18 : Typed.Typed 𝓤 H A 𝓣 E G20 b14 Δ3 at18
-          d18 = Typed.s-seq 𝓤 H A W 𝓣 E G20 G21 b12 b13 Δ3 (Typed.both s17) at17 (Plain.t-call-plain 𝓤 H A W 𝓣 3 ps·2 r·2 (claims· .4) (claims· .5) "access::show" (known .2) E (λ pos β. β)
-              G20 (
+          d17 : Typed.Typed 𝓤 H A 𝓣 E G19 b14 Δ3 at17
+          d17 = Typed.s-seq 𝓤 H A W 𝓣 E G19 G20 b12 b13 Δ3 (Typed.both s16) at16 (Plain.t-call-plain 𝓤 H A W 𝓣 3 ps·2 r·2 (claims· .4) (claims· .5) "access::show" (known .2) E (λ pos β. β)
+              G19 (
                 record { pos = 2; ty = Y.tyRef (Y.named 1) Y.imm y8; ref = λ x. x },
                 (
-                  Num.vAt 10 λ x. x,
+                  Num.vAt 9 λ x. x,
                   (
-                    record { pos = 11; st = []; d = 0; at = λ x. x },
+                    record { pos = 10; st = []; d = 0; at = λ x. x },
                     (
-                      Num.vAt 9 λ x. x,
+                      Num.vAt 8 λ x. x,
                       (
-                        Num.vAt
-                            15 λ x. x,
+                        Num.vAt 14
+                            λ x. x,
                         (
                           record { pos = 5; st = []; d = 0; at = λ x. x },
                           (
-                            record { pos = 6; st = []; d = 0; at = λ x. x },
+                            record { pos = 16; ty = Y.tyRef Y.erased Y.mut (Y.tyInt Y.w64); ref = λ x. x },
                             (
                               record {
                                 pos = 17;
-                                ty = Y.tyRef Y.erased Y.mut (Y.tyInt Y.w64);
+                                ty = Y.tyRef
+                                    Y.erased Y.mut y9;
                                 ref = λ x. x;
                               },
-                              (record { pos = 18; ty = Y.tyRef Y.erased Y.mut y9; ref = λ x. x }, tt),
+                              tt,
                             ),
                           ),
                         ),
@@ -1072,46 +1091,39 @@ module _ (claims· : Claims) where
                     ),
                   ),
                 ),
-              ) 13 (1 ∷ 5 ∷ 6 ∷ []) (Call.sub-id 𝓤 H A W (G20 .slots)) (
-                ShrRef.spares-sref 𝓤
-                    H A W (Array'.Array L.u64 928) y0 1,
+              ) 12 (1 ∷ 5 ∷ 6 ∷ []) (Call.sub-id 𝓤 H A W (G19 .slots)) (
+                ShrRef.spares-sref 𝓤 H A W (Array'.Array L.u64 928) y0 1,
                 Reads.reads-sref 𝓤 H A W (Array'.Array L.u64 928) y0 1,
                 refl,
                 (
                   (Scalar.reads-sc 𝓤 H A W (Row.sInt Y.w64), refl),
                   (
+                    (S.yields 𝓤 H A W, refl),
                     (
-                      S.yields 𝓤 H A W,
-                      refl,
-                    ),
-                    (
-                      (Scalar.reads-sc 𝓤 H A W (Row.sInt Y.w64), refl),
+                      (
+                        Scalar.reads-sc 𝓤 H A W (Row.sInt
+                            Y.w64),
+                        refl,
+                      ),
                       (
                         (Scalar.reads-sc 𝓤 H A W (Row.sInt Y.w64), refl),
                         (
                           (
-                            Yields.yields-copy 𝓤 H A W (λ ρ. Unit) (Declared.row
-                                NotAliveGenerationCounts.the-type) refl (Copies.cStruct NotAliveGenerationCounts.the-type NotAliveGenerationCounts′.the-laws NotAliveGenerationCounts′.the-copy .copy 𝓤 H A W) r9 (λ x. x) (λ x. x) (λ ρ told.
-                                Local.mem-whole 𝓤 H A W (Declared.row NotAliveGenerationCounts.the-type) ρ) λ ρ told. Local.whole-mem 𝓤 H A W (Declared.row NotAliveGenerationCounts.the-type) ρ,
+                            Yields.yields-copy 𝓤 H A W (λ ρ. Unit) (Declared.row Ranking.the-type) refl (Copies.cStruct
+                                Ranking.the-type Ranking′.the-laws Ranking′.the-copy .copy 𝓤 H A W) r13 (λ x. x) (λ x. x) (λ ρ told. Local.mem-whole 𝓤 H A W (Declared.row Ranking.the-type) ρ) λ ρ told.
+                                Local.whole-mem 𝓤 H A W (Declared.row Ranking.the-type) ρ,
                             refl,
                           ),
                           (
+                            Reads.as-is 𝓤 H A r10,
+                            Mut.reads-mslice 𝓤 H A W L.u64 y5 5,
+                            refl,
                             (
-                              Yields.yields-copy 𝓤 H A W (λ ρ. Unit) (Declared.row NotAliveGenerationCounts.the-type) refl (Copies.cStruct NotAliveGenerationCounts.the-type NotAliveGenerationCounts′.the-laws NotAliveGenerationCounts′.the-copy
-                                  .copy 𝓤 H A W) r9 (λ x. x) (λ x. x) (λ ρ told. Local.mem-whole 𝓤 H A W (Declared.row NotAliveGenerationCounts.the-type) ρ) λ ρ told. Local.whole-mem 𝓤 H A W (Declared.row
-                                  NotAliveGenerationCounts.the-type) ρ,
+                              Reads.as-is 𝓤 H A (Rows'.mref
+                                  (Array'.Array L.u64 32) y3 6),
+                              Reads.reads-mref 𝓤 H A W (Array'.Array L.u64 32) y3 6,
                               refl,
-                            ),
-                            (
-                              Reads.as-is 𝓤 H A r10,
-                              Mut.reads-mslice 𝓤 H A W L.u64 y5 5,
-                              refl,
-                              (
-                                Reads.as-is 𝓤 H A (Rows'.mref (Array'.Array L.u64 32) y3 6),
-                                Reads.reads-mref 𝓤 H A W (Array'.Array L.u64 32) y3 6,
-                                refl,
-                                tt,
-                              ),
+                              tt,
                             ),
                           ),
                         ),
@@ -1119,14 +1131,14 @@ module _ (claims· : Claims) where
                     ),
                   ),
                 ),
-              ) (Reads.room-gone 𝓤 H A Y.tyUnit) (tt, (tt, (tt, tt))) refl) d17
+              ) (Reads.room-gone 𝓤 H A Y.tyUnit) (tt, (tt, (tt, tt))) refl) d16
 
-          d19 : Typed.Typed 𝓤 H A 𝓣 E G19 b15 Δ3 at19
-          d19 = Typed.s-seq 𝓤 H A W 𝓣 E G19 G20 b11 b14 Δ3 (Typed.give s16) at18 (Reborrow.t-mref-relend 𝓤 H A W E 𝓣 G19 8 18 4 6 (Array'.Array L.u64 32) y9 y2 y3 (Row.lease (κs .1 .1 .1 .1
-              .0) (qs .1 .1 .1 .1 .0)) (λ x. x) (Reads.as-is 𝓤 H A r3) (Reads.room-gone 𝓤 H A y3) refl tt refl refl λ b o. tt) d18
+          d18 : Typed.Typed 𝓤 H A 𝓣 E G18 b15 Δ3 at18
+          d18 = Typed.s-seq 𝓤 H A W 𝓣 E G18 G19 b11 b14 Δ3 (Typed.give s15) at17 (Reborrow.t-mref-relend 𝓤 H A W E 𝓣 G18 7 17 4 6 (Array'.Array L.u64 32) y9 y2 y3 (Row.lease (κs .1 .1 .1 .1
+              .0) (qs .1 .1 .1 .1 .0)) (λ x. x) (Reads.as-is 𝓤 H A r3) (Reads.room-gone 𝓤 H A y3) refl tt refl refl λ b o. tt) d17
 
-          d20 : Typed.Typed 𝓤 H A 𝓣 E G18 b15 Δ3 at20
-          d20 = Typed.g-pre 𝓤 H A W 𝓣 E G18 G19 b15 Δ3 (λ Ψ. Ψ) at19 (Lifetime.g-begin 𝓤 H A W E G18 6 (
+          d19 : Typed.Typed 𝓤 H A 𝓣 E G17 b15 Δ3 at19
+          d19 = Typed.g-pre 𝓤 H A W 𝓣 E G17 G18 b15 Δ3 (λ Ψ. Ψ) at18 (Lifetime.g-begin 𝓤 H A W E G17 6 (
             tt,
             (
               tt,
@@ -1139,9 +1151,9 @@ module _ (claims· : Claims) where
                     (
                       tt,
                       (
-                        tt,
+                        (tt, tt),
                         (
-                          (tt, tt),
+                          tt,
                           (
                             tt,
                             (
@@ -1158,7 +1170,7 @@ module _ (claims· : Claims) where
                                         tt,
                                         (
                                           tt,
-                                          (tt, (tt, (tt, tt))),
+                                          (tt, (tt, tt)),
                                         ),
                                       ),
                                     ),
@@ -1174,22 +1186,22 @@ module _ (claims· : Claims) where
                 ),
               ),
             ),
-          )) d19
+          )) d18
 
-          d21 : Typed.Typed 𝓤 H A 𝓣 E G17 b16 Δ3 at21
-          d21 = Typed.s-seq 𝓤 H A W 𝓣 E G17 G18 b10 b15 Δ3 (Typed.ask s14) at20 (Relend.t-sl-aggregate 𝓤 H A W E L.u64 𝓣 (Relend.asMut L.u64) G17 16 17 5 y5 y5 (λ x. x) (Scalar.oFld 7
-              (Y.field 1 ∷ []) (Y.tyInt Y.w64) 8 λ v. Shared.lenV (v .0)) (Reads.as-is 𝓤 H A (Relend.msptr L.u64 y5 5)) (Reads.room-gone 𝓤 H A (L.sl y5)) (
-                Relend.reads-owed-len 𝓤 H A W
-                    L.u64 y4 3 5 (Row.lease (κs .1 .1 .1 .0) (qs .1 .1 .1 .0)) 8 refl,
+          d20 : Typed.Typed 𝓤 H A 𝓣 E G16 b16 Δ3 at20
+          d20 = Typed.s-seq 𝓤 H A W 𝓣 E G16 G17 b10 b15 Δ3 (Typed.ask s13) at19 (Relend.t-sl-aggregate 𝓤 H A W E L.u64 𝓣 (Relend.asMut L.u64) G16 15 16 5 y5 y5 (λ x. x) (Scalar.oFld 6
+              (Y.field 1 ∷ []) (Y.tyInt Y.w64) 8 λ v. Shared.lenV (v .0)) (Reads.as-is 𝓤 H A r9) (Reads.room-gone 𝓤 H A (L.sl y5)) (
+                Relend.reads-owed-len 𝓤 H A W L.u64 y4 3 5 (Row.lease (κs
+                    .1 .1 .1 .0) (qs .1 .1 .1 .0)) 8 refl,
                 refl,
-              ) refl refl λ b o k. tt) d20
+              ) refl refl λ b o k. tt) d19
 
-          d22 : Typed.Typed 𝓤 H A 𝓣 E G16 b17 Δ3 at22
-          d22 = Typed.s-seq 𝓤 H A W 𝓣 E G16 G17 b9 b16 Δ3 (Typed.give s13) at21 (Relend.t-sl-relend 𝓤 H A W E L.u64 𝓣 G16 7 16 3 5 y4 y5 (Row.lease (κs .1 .1 .1 .0) (qs .1 .1 .1 .0)) 0 (λ
-              x. x) (Reads.as-is 𝓤 H A r7) (Reads.room-gone 𝓤 H A y5) refl tt refl refl refl λ b o. tt) d21
+          d21 : Typed.Typed 𝓤 H A 𝓣 E G15 b17 Δ3 at21
+          d21 = Typed.s-seq 𝓤 H A W 𝓣 E G15 G16 b9 b16 Δ3 (Typed.give s12) at20 (Relend.t-sl-relend 𝓤 H A W E L.u64 𝓣 G15 6 15 3 5 y4 y5 (Row.lease (κs .1 .1 .1 .0) (qs .1 .1 .1 .0)) 0 (λ
+              x. x) (Reads.as-is 𝓤 H A r7) (Reads.room-gone 𝓤 H A y5) refl tt refl refl refl λ b o. tt) d20
 
-          d23 : Typed.Typed 𝓤 H A 𝓣 E G15 b17 Δ3 at23
-          d23 = Typed.g-pre 𝓤 H A W 𝓣 E G15 G16 b17 Δ3 (λ Ψ. Ψ) at22 (Lifetime.g-begin 𝓤 H A W E G15 5 (
+          d22 : Typed.Typed 𝓤 H A 𝓣 E G14 b17 Δ3 at22
+          d22 = Typed.g-pre 𝓤 H A W 𝓣 E G14 G15 b17 Δ3 (λ Ψ. Ψ) at21 (Lifetime.g-begin 𝓤 H A W E G14 5 (
             tt,
             (
               tt,
@@ -1223,7 +1235,7 @@ module _ (claims· : Claims) where
                                           tt,
                                           (
                                             tt,
-                                            (tt, (tt, tt)),
+                                            (tt, tt),
                                           ),
                                         ),
                                       ),
@@ -1240,87 +1252,87 @@ module _ (claims· : Claims) where
                 ),
               ),
             ),
-          )) d22
+          )) d21
 
-          d24 : Typed.Typed 𝓤 H A 𝓣 E G14 b17 Δ3 at24
-          d24 = Typed.g-pre 𝓤 H A W 𝓣 E G14 G15 b17 Δ3 (Typed.pass T14 T15 s11) at23 (Scalar.g-room 𝓤 H A W E G14 14 (Y.tyInt Y.w64) (Scalar.room-sc 𝓤 H A W (Row.sInt Y.w64))) d23
+          d23 : Typed.Typed 𝓤 H A 𝓣 E G13 b17 Δ3 at23
+          d23 = Typed.g-pre 𝓤 H A W 𝓣 E G13 G14 b17 Δ3 (Typed.pass T13 T14 s10) at22 (Scalar.g-room 𝓤 H A W E G13 13 (Y.tyInt Y.w64) (Scalar.room-sc 𝓤 H A W (Row.sInt Y.w64))) d22
 
-          d25 : Typed.Typed 𝓤 H A 𝓣 E G13 b18 Δ3 at25
-          d25 = Typed.s-seq 𝓤 H A W 𝓣 E G13 G14 b8 b17 Δ3 (Typed.ask s10) at24 (Scalar.t-op2 𝓤 H A W E 𝓣 G13 (Y.sub Y.unsigned) (Scalar.oAt 14 (Y.tyInt Y.w64) (Row.valS (Row.sInt Y.w64)))
-              (Scalar.oAt 9 (Y.tyInt Y.w64) (Row.valS (Row.sInt Y.w64))) 15 L.h64 (Y.tyInt Y.w64) (Row.valS (Row.sInt Y.w64)) (Row.sInt Y.w64 .of) (
+          d24 : Typed.Typed 𝓤 H A 𝓣 E G12 b18 Δ3 at24
+          d24 = Typed.s-seq 𝓤 H A W 𝓣 E G12 G13 b8 b17 Δ3 (Typed.ask s9) at23 (Scalar.t-op2 𝓤 H A W E 𝓣 G12 (Y.sub Y.unsigned) (Scalar.oAt 13 (Y.tyInt Y.w64) (Row.valS (Row.sInt Y.w64)))
+              (Scalar.oAt 8 (Y.tyInt Y.w64) (Row.valS (Row.sInt Y.w64))) 14 L.h64 (Y.tyInt Y.w64) (Row.valS (Row.sInt Y.w64)) (Row.sInt Y.w64 .of) (
                 Scalar.reads-sc 𝓤 H A W (Row.sInt Y.w64),
                 refl,
-              ) (Scalar.reads-sc 𝓤 H A W (Row.sInt Y.w64), refl) (Reads.room-gone 𝓤 H A (Y.tyInt Y.w64)) (Scalar.holds-sc 𝓤 H A W (Row.sInt Y.w64)) refl (λ u. refl) λ u. tt) d24
+              ) (Scalar.reads-sc 𝓤 H A W (Row.sInt Y.w64), refl) (Reads.room-gone 𝓤 H A (Y.tyInt Y.w64)) (Scalar.holds-sc 𝓤 H A W (Row.sInt Y.w64)) refl (λ u. refl) λ u. tt) d23
 
-          d26 : Typed.Typed 𝓤 H A 𝓣 E G12 b19 Δ3 at26
-          d26 = Typed.s-seq 𝓤 H A W 𝓣 E G12 G13 b7 b18 Δ3 (Typed.ask s9) at25 (Scalar.t-op2 𝓤 H A W E 𝓣 G12 (Y.sub Y.unsigned) (Scalar.oAt 4 (Y.tyInt Y.w64) (Row.valS (Row.sInt Y.w64)))
-              (Scalar.oInt Y.w64 1) 14 L.h64 (Y.tyInt Y.w64) (Row.valS (Row.sInt Y.w64)) (Row.sInt Y.w64 .of) (Scalar.reads-sc 𝓤 H A W (Row.sInt Y.w64), refl) tt (Reads.room-gone 𝓤 H A
-              (Y.tyInt Y.w64)) (Scalar.holds-sc 𝓤 H A W (Row.sInt Y.w64)) refl (λ u. refl) λ u. tt) d25
+          d25 : Typed.Typed 𝓤 H A 𝓣 E G11 b19 Δ3 at25
+          d25 = Typed.s-seq 𝓤 H A W 𝓣 E G11 G12 b7 b18 Δ3 (Typed.ask s8) at24 (Scalar.t-op2 𝓤 H A W E 𝓣 G11 (Y.sub Y.unsigned) (Scalar.oAt 4 (Y.tyInt Y.w64) (Row.valS (Row.sInt Y.w64)))
+              (Scalar.oInt Y.w64 1) 13 L.h64 (Y.tyInt Y.w64) (Row.valS (Row.sInt Y.w64)) (Row.sInt Y.w64 .of) (Scalar.reads-sc 𝓤 H A W (Row.sInt Y.w64), refl) tt (Reads.room-gone 𝓤 H A
+              (Y.tyInt Y.w64)) (Scalar.holds-sc 𝓤 H A W (Row.sInt Y.w64)) refl (λ u. refl) λ u. tt) d24
 
-          d27 : Typed.Typed 𝓤 H A 𝓣 E G11 b20 Δ3 at27
-          d27 = Typed.s-seq 𝓤 H A W 𝓣 E G11 G12 b6 b19 Δ3 (Typed.both s8) at26 (Plain.t-call-plain 𝓤 H A W 𝓣 1 ps·1 r·1 (claims· .2) (claims· .3) "samples::peek" (known .1) E (λ pos β. β)
-              G11 (record { pos = 1; ty = Y.tyRef (Y.named 0) Y.imm S.named; ref = λ x. x }, (Num.vAt 10 λ x. x, tt)) 11 (0 ∷ []) (Call.sub-id 𝓤 H A W (G11 .slots)) (
+          d26 : Typed.Typed 𝓤 H A 𝓣 E G10 b20 Δ3 at26
+          d26 = Typed.s-seq 𝓤 H A W 𝓣 E G10 G11 b6 b19 Δ3 (Typed.both s7) at25 (Plain.t-call-plain 𝓤 H A W 𝓣 1 ps·1 r·1 (claims· .2) (claims· .3) "samples::peek" (known .1) E (λ pos β. β)
+              G10 (record { pos = 1; ty = Y.tyRef (Y.named 0) Y.imm S.named; ref = λ x. x }, (Num.vAt 9 λ x. x, tt)) 10 (0 ∷ []) (Call.sub-id 𝓤 H A W (G10 .slots)) (
                 ShrSlice.spares-sslice
                     𝓤 H A W S.row y6 0,
                 Shared.reads-sslice 𝓤 H A W S.row y6 0,
                 refl,
                 ((Scalar.reads-sc 𝓤 H A W (Row.sInt Y.w64), refl), tt),
-              ) (Reads.room-gone 𝓤 H A S.ty) (tt, tt) refl) d26
+              ) (Reads.room-gone 𝓤 H A S.ty) (tt, tt) refl) d25
 
-          d28 : Typed.Typed 𝓤 H A 𝓣 E G6 b21 Δ3 at28
-          d28 = Typed.s-seq 𝓤 H A W 𝓣 E G6 G11 b5 b20 Δ3 (Typed.both s7) at27 (Plain.t-call-plain 𝓤 H A W 𝓣 1 ps·0 r·0 (claims· .0) (claims· .1) "access::slot_at" (known .0) E (λ pos β. β)
-              G6 (record { pos = 3; ty = Y.tyRef (Y.named 2) Y.imm y7; ref = λ x. x }, (Num.vAt 9 λ x. x, tt)) 10 (2 ∷ []) (Call.sub-id 𝓤 H A W (G6 .slots)) (
+          d27 : Typed.Typed 𝓤 H A 𝓣 E G6 b21 Δ3 at27
+          d27 = Typed.s-seq 𝓤 H A W 𝓣 E G6 G10 b5 b20 Δ3 (Typed.both s6) at26 (Plain.t-call-plain 𝓤 H A W 𝓣 1 ps·0 r·0 (claims· .0) (claims· .1) "access::slot_at" (known .0) E (λ pos β. β)
+              G6 (record { pos = 3; ty = Y.tyRef (Y.named 2) Y.imm y7; ref = λ x. x }, (Num.vAt 8 λ x. x, tt)) 9 (2 ∷ []) (Call.sub-id 𝓤 H A W (G6 .slots)) (
                 ShrRef.spares-sref 𝓤 H A W
                     (Array'.Array L.u64 256) y1 2,
                 Reads.reads-sref 𝓤 H A W (Array'.Array L.u64 256) y1 2,
                 refl,
                 ((Scalar.reads-sc 𝓤 H A W (Row.sInt Y.w64), refl), tt),
               ) (Reads.room-gone 𝓤 H A
-              (Y.tyInt Y.w64)) (tt, tt) refl) d27
+              (Y.tyInt Y.w64)) (tt, tt) refl) d26
 
-          d29 : Typed.Typed 𝓤 H A 𝓣 E G5 b22 Δ3 at29
-          d29 = Typed.t-seq 𝓤 H A W 𝓣 E G5 G6 b4 b21 Δ3 at6 at28 d6 d28
+          d28 : Typed.Typed 𝓤 H A 𝓣 E G5 b22 Δ3 at28
+          d28 = Typed.t-seq 𝓤 H A W 𝓣 E G5 G6 b4 b21 Δ3 at5 at27 d5 d27
 
-          d30 : Typed.Typed 𝓤 H A 𝓣 E G3 b23 Δ3 at30
-          d30 = Typed.s-seq 𝓤 H A W 𝓣 E G3 G5 b1 b22 Δ3 (Typed.ask s2) at29 (Scalar.t-op2 𝓤 H A W E 𝓣 G3 (Y.lt Y.unsigned) (Scalar.oAt 9 (Y.tyInt Y.w64) (Row.valS (Row.sInt Y.w64)))
-              (Scalar.oAt 4 (Y.tyInt Y.w64) (Row.valS (Row.sInt Y.w64))) 12 L.hbool Y.tyBool (Row.valS Row.sBool) (Row.sBool .of) (Scalar.reads-sc 𝓤 H A W (Row.sInt Y.w64), refl)
-              (Scalar.reads-sc 𝓤 H A W (Row.sInt Y.w64), refl) (Reads.room-gone 𝓤 H A Y.tyBool) (Scalar.holds-sc 𝓤 H A W Row.sBool) refl (λ u. refl) λ u. tt) d29
+          d29 : Typed.Typed 𝓤 H A 𝓣 E G3 b23 Δ3 at29
+          d29 = Typed.s-seq 𝓤 H A W 𝓣 E G3 G5 b1 b22 Δ3 (Typed.ask s2) at28 (Scalar.t-op2 𝓤 H A W E 𝓣 G3 (Y.lt Y.unsigned) (Scalar.oAt 8 (Y.tyInt Y.w64) (Row.valS (Row.sInt Y.w64)))
+              (Scalar.oAt 4 (Y.tyInt Y.w64) (Row.valS (Row.sInt Y.w64))) 11 L.hbool Y.tyBool (Row.valS Row.sBool) (Row.sBool .of) (Scalar.reads-sc 𝓤 H A W (Row.sInt Y.w64), refl)
+              (Scalar.reads-sc 𝓤 H A W (Row.sInt Y.w64), refl) (Reads.room-gone 𝓤 H A Y.tyBool) (Scalar.holds-sc 𝓤 H A W Row.sBool) refl (λ u. refl) λ u. tt) d28
 
-          d31 : Typed.Typed 𝓤 H A 𝓣 E G3 b24 Δ2 at31
-          d31 = Typed.t-loop-by 𝓤 H A W 𝓣 E G3 b23 Δ2 put0 (λ u vs. Inv·0 (Row.get 1 (T3 .locals) u .now) (Row.get 2 (T3 .locals) u .now) (Row.get 3 (T3 .locals) u .now) (Row.get 4 (T3
-              .locals) u) (Row.get 5 (T3 .locals) u) (Row.get 6 (T3 .locals) u) (Row.get 7 (T3 .locals) u .now) (Row.get 8 (T3 .locals) u .now) (Row.get 9 (T3 .locals) u) (vs .0) (vs .1)
-              (vs .2)) (λ u vs. μ·0 (Row.get 1 (T3 .locals) u .now) (Row.get 2 (T3 .locals) u .now) (Row.get 3 (T3 .locals) u .now) (Row.get 4 (T3 .locals) u) (Row.get 5 (T3 .locals) u)
-              (Row.get 6 (T3 .locals) u) (Row.get 7 (T3 .locals) u .now) (Row.get 8 (T3 .locals) u .now) (Row.get 9 (T3 .locals) u) (vs .0) (vs .1) (vs .2)) at30 d30
+          d30 : Typed.Typed 𝓤 H A 𝓣 E G3 b24 Δ2 at30
+          d30 = Typed.t-loop-by 𝓤 H A W 𝓣 E G3 b23 Δ2 put0 (λ u vs. Inv·0 (Row.get 1 (T3 .locals) u .now) (Row.get 2 (T3 .locals) u .now) (Row.get 3 (T3 .locals) u .now) (Row.get 4 (T3
+              .locals) u) (Row.get 5 (T3 .locals) u) (Row.get 6 (T3 .locals) u .now) (Row.get 7 (T3 .locals) u .now) (Row.get 8 (T3 .locals) u) (vs .0) (vs .1) (vs .2)) (λ u vs. μ·0
+              (Row.get 1 (T3 .locals) u .now) (Row.get 2 (T3 .locals) u .now) (Row.get 3 (T3 .locals) u .now) (Row.get 4 (T3 .locals) u) (Row.get 5 (T3 .locals) u) (Row.get 6 (T3 .locals) u
+              .now) (Row.get 7 (T3 .locals) u .now) (Row.get 8 (T3 .locals) u) (vs .0) (vs .1) (vs .2)) at29 d29
 
-          d32 : Typed.Typed 𝓤 H A 𝓣 E G3 b25 Δ1 at32
-          d32 = Typed.t-block 𝓤 H A W 𝓣 E G3 b24 Δ1 at31 d31
+          d31 : Typed.Typed 𝓤 H A 𝓣 E G3 b25 Δ1 at31
+          d31 = Typed.t-block 𝓤 H A W 𝓣 E G3 b24 Δ1 at30 d30
 
-          d33 : Typed.Typed 𝓤 H A 𝓣 E G36 b27 Δ0 at33
-          d33 = Typed.t-return 𝓤 H A W 𝓣 E Δ0 tt
+          d32 : Typed.Typed 𝓤 H A 𝓣 E G35 b27 Δ0 at32
+          d32 = Typed.t-return 𝓤 H A W 𝓣 E Δ0 tt
 
-          d34 : Typed.Typed 𝓤 H A 𝓣 E G35 b27 Δ0 at34
-          d34 = Typed.g-pre 𝓤 H A W 𝓣 E G35 G36 b27 Δ0 (Typed.pass T35 T36 s32) at33 (Scalar.g-room 𝓤 H A W E G35 4 (Y.tyInt Y.w64) (Scalar.room-sc 𝓤 H A W (Row.sInt Y.w64))) d33
+          d33 : Typed.Typed 𝓤 H A 𝓣 E G34 b27 Δ0 at33
+          d33 = Typed.g-pre 𝓤 H A W 𝓣 E G34 G35 b27 Δ0 (Typed.pass T34 T35 s31) at32 (Scalar.g-room 𝓤 H A W E G34 4 (Y.tyInt Y.w64) (Scalar.room-sc 𝓤 H A W (Row.sInt Y.w64))) d32
 
-          d35 : Typed.Typed 𝓤 H A 𝓣 E G34 b27 Δ0 at35
-          d35 = Typed.g-pre 𝓤 H A W 𝓣 E G34 G35 b27 Δ0 (Typed.pass T34 T35 s31) at34 (Scalar.g-room 𝓤 H A W E G34 9 (Y.tyInt Y.w64) (Scalar.room-sc 𝓤 H A W (Row.sInt Y.w64))) d34
+          d34 : Typed.Typed 𝓤 H A 𝓣 E G33 b27 Δ0 at34
+          d34 = Typed.g-pre 𝓤 H A W 𝓣 E G33 G34 b27 Δ0 (Typed.pass T33 T34 s30) at33 (Scalar.g-room 𝓤 H A W E G33 8 (Y.tyInt Y.w64) (Scalar.room-sc 𝓤 H A W (Row.sInt Y.w64))) d33
 
-          d36 : Typed.Typed 𝓤 H A 𝓣 E G4 b28 Δ0 at36
-          d36 = Typed.s-seq 𝓤 H A W 𝓣 E G4 G34 b26 b27 Δ0 (Typed.pass T4 T34 s30) at35 (Scalar.t-use 𝓤 H A W E 𝓣 G4 Scalar.oUnit 0 L.hunit Y.tyUnit (Row.valS Row.sUnit) (Row.sUnit .of) tt
-              (Reads.room-gone 𝓤 H A Y.tyUnit) (Scalar.holds-sc 𝓤 H A W Row.sUnit) refl (λ u. refl) λ u. tt) d35
+          d35 : Typed.Typed 𝓤 H A 𝓣 E G4 b28 Δ0 at35
+          d35 = Typed.s-seq 𝓤 H A W 𝓣 E G4 G33 b26 b27 Δ0 (Typed.pass T4 T33 s29) at34 (Scalar.t-use 𝓤 H A W E 𝓣 G4 Scalar.oUnit 0 L.hunit Y.tyUnit (Row.valS Row.sUnit) (Row.sUnit .of) tt
+              (Reads.room-gone 𝓤 H A Y.tyUnit) (Scalar.holds-sc 𝓤 H A W Row.sUnit) refl (λ u. refl) λ u. tt) d34
 
-          d37 : Typed.Typed 𝓤 H A 𝓣 E G3 b29 Δ0 at37
-          d37 = Typed.t-seq 𝓤 H A W 𝓣 E G3 G4 b25 b28 Δ0 at32 at36 d32 d36
+          d36 : Typed.Typed 𝓤 H A 𝓣 E G3 b29 Δ0 at36
+          d36 = Typed.t-seq 𝓤 H A W 𝓣 E G3 G4 b25 b28 Δ0 at31 at35 d31 d35
 
-          d38 : Typed.Typed 𝓤 H A 𝓣 E G2 b30 Δ0 at38
-          d38 = Typed.s-seq 𝓤 H A W 𝓣 E G2 G3 b0 b29 Δ0 (Typed.pass T2 T3 s1) at37 (Scalar.t-use 𝓤 H A W E 𝓣 G2 (Scalar.oInt Y.w64 0) 9 L.h64 (Y.tyInt Y.w64) (Row.valS (Row.sInt Y.w64))
-              (Row.sInt Y.w64 .of) tt (Reads.room-gone 𝓤 H A (Y.tyInt Y.w64)) (Scalar.holds-sc 𝓤 H A W (Row.sInt Y.w64)) refl (λ u. refl) λ u. tt) d37
+          d37 : Typed.Typed 𝓤 H A 𝓣 E G2 b30 Δ0 at37
+          d37 = Typed.s-seq 𝓤 H A W 𝓣 E G2 G3 b0 b29 Δ0 (Typed.pass T2 T3 s1) at36 (Scalar.t-use 𝓤 H A W E 𝓣 G2 (Scalar.oInt Y.w64 0) 8 L.h64 (Y.tyInt Y.w64) (Row.valS (Row.sInt Y.w64))
+              (Row.sInt Y.w64 .of) tt (Reads.room-gone 𝓤 H A (Y.tyInt Y.w64)) (Scalar.holds-sc 𝓤 H A W (Row.sInt Y.w64)) refl (λ u. refl) λ u. tt) d36
 
-          d39 : Typed.Typed 𝓤 H A 𝓣 E G0 b30 Δ0 at39
-          d39 = Typed.g-pre 𝓤 H A W 𝓣 E G0 G2 b30 Δ0 (Typed.give s0) at38 (Know.g-sl-known 𝓤 H A W (Referent.fInt Y.w64) E G0 7 3 y4 (Row.lease (κs .1 .1 .1 .0) (qs .1 .1 .1 .0)) 0 (λ x. x)
-              record { fits = Dec'.lit< tt } (Reads.as-is 𝓤 H A r7) refl tt) d38
+          d38 : Typed.Typed 𝓤 H A 𝓣 E G0 b30 Δ0 at38
+          d38 = Typed.g-pre 𝓤 H A W 𝓣 E G0 G2 b30 Δ0 (Typed.give s0) at37 (Know.g-sl-known 𝓤 H A W (Referent.fInt Y.w64) E G0 6 3 y4 (Row.lease (κs .1 .1 .1 .0) (qs .1 .1 .1 .0)) 0 (λ x. x)
+              record { fits = Dec'.lit< tt } (Reads.as-is 𝓤 H A r7) refl tt) d37
 
           pub typed : Typed.Typed 𝓤 H A 𝓣 E (Function.Γin 5 ps r xs m κs qs) b30 (Function.Δret 5 ps r xs m κs qs) Φ
-          typed = d39
+          typed = d38
 
       module _ (κs : Lifetimes.Lfts 5) where
         pub record Args : Type 0 where
@@ -1328,13 +1340,12 @@ module _ (claims· : Claims) where
           pub ws : Kinds.Den {n = 5} κs (ShrRef.pShr (Array'.Array L.u64 928) 1 tt)
           pub slots : Kinds.Den {n = 5} κs (ShrRef.pShr (Array'.Array L.u64 256) 2 tt)
           pub n : Kinds.Den {n = 5} κs (Num.pNum Y.w64)
-          pub mrs : Kinds.Den {n = 5} κs (L.p NotAliveGenerationCounts.the-type NotAliveGenerationCounts′.the-laws NotAliveGenerationCounts′.the-copy NotAliveGenerationCounts′.the-plain)
-          pub mrsic : Kinds.Den {n = 5} κs (L.p NotAliveGenerationCounts.the-type NotAliveGenerationCounts′.the-laws NotAliveGenerationCounts′.the-copy NotAliveGenerationCounts′.the-plain)
+          pub ranking : Kinds.Den {n = 5} κs (L.p Ranking.the-type Ranking′.the-laws Ranking′.the-copy Ranking′.the-plain)
           pub out : Kinds.Den {n = 5} κs (MutSlice.pMutS L.u64 3 tt)
           pub seen : Kinds.Den {n = 5} κs (Kinds.pMut (Array'.Array L.u64 32) 4 tt)
 
         abbrev pub dens : (a : Args) → Kinds.Dens κs ps
-        dens = λ a. (a .t, (a .ws, (a .slots, (a .n, (a .mrs, (a .mrsic, (a .out, (a .seen, tt))))))))
+        dens = λ a. (a .t, (a .ws, (a .slots, (a .n, (a .ranking, (a .out, (a .seen, tt)))))))
 
         module _ (args· : Args) where
           pub record Ranges : Type 0 where
@@ -1365,7 +1376,7 @@ module _ (claims· : Claims) where
       m2 = λ before given. s1 (m1 before given)
 
       abbrev W1 : (before : Start) → (given : s0 .gives (m0 (before .κs) (before .args))) → Typed.Want O1
-      W1 = λ before given. Typed.wantNext T4 O0 (at36 (W0 (before .κs) (before .args))) (W0 (before .κs) (before .args))
+      W1 = λ before given. Typed.wantNext T4 O0 (at35 (W0 (before .κs) (before .args))) (W0 (before .κs) (before .args))
 
       abbrev W2 : (before : Start) → (given : s0 .gives (m0 (before .κs) (before .args))) → Typed.Want O2
       W2 = λ before given. Typed.inBlock O1 (W1 before given)
@@ -1381,36 +1392,36 @@ module _ (claims· : Claims) where
       abbrev pub Need-loop-holds : Type 0
       Need-loop-holds = (c : After-slice-known) → Inv·0 (Row.get 1 (T3 .locals) (m2 (c .before) (c .slice-known .given)) .now) (Row.get 2 (T3 .locals) (m2 (c .before) (c .slice-known
           .given)) .now) (Row.get 3 (T3 .locals) (m2 (c .before) (c .slice-known .given)) .now) (Row.get 4 (T3 .locals) (m2 (c .before) (c .slice-known .given))) (Row.get 5 (T3 .locals) (m2
-          (c .before) (c .slice-known .given))) (Row.get 6 (T3 .locals) (m2 (c .before) (c .slice-known .given))) (Row.get 7 (T3 .locals) (m2 (c .before) (c .slice-known .given)) .now)
-          (Row.get 8 (T3 .locals) (m2 (c .before) (c .slice-known .given)) .now) (Row.get 9 (T3 .locals) (m2 (c .before) (c .slice-known .given))) (Row.get 7 (T3 .locals) (m2 (c .before) (c
-          .slice-known .given)) .now) (Row.get 8 (T3 .locals) (m2 (c .before) (c .slice-known .given)) .now) (Row.get 9 (T3 .locals) (m2 (c .before) (c .slice-known .given)))
+          (c .before) (c .slice-known .given))) (Row.get 6 (T3 .locals) (m2 (c .before) (c .slice-known .given)) .now) (Row.get 7 (T3 .locals) (m2 (c .before) (c .slice-known .given)) .now)
+          (Row.get 8 (T3 .locals) (m2 (c .before) (c .slice-known .given))) (Row.get 6 (T3 .locals) (m2 (c .before) (c .slice-known .given)) .now) (Row.get 7 (T3 .locals) (m2 (c .before) (c
+          .slice-known .given)) .now) (Row.get 8 (T3 .locals) (m2 (c .before) (c .slice-known .given)))
 
       abbrev pub m3 : (before : After-slice-known) → (out : List.List (Referent.rtF (Referent.fInt Y.w64) .Denot)) → (seen : Array'.Array L.u64 32 .Denot) → (p : L.h64 .Mod) → Typed.Mo T3
-      m3 = λ before out seen p. Row.set 9 (9, L.h64) p (Row.setRow 8 (8, r3) (Row.setRow 7 (7, r7) (T3 .locals))) (Row.set 8 (8, r3) record {
-        ptr = Row.get 8 (T3 .locals) (m2 (before
+      m3 = λ before out seen p. Row.set 8 (8, L.h64) p (Row.setRow 7 (7, r3) (Row.setRow 6 (6, r7) (T3 .locals))) (Row.set 7 (7, r3) record {
+        ptr = Row.get 7 (T3 .locals) (m2 (before
             .before) (before .slice-known .given)) .ptr;
-        name = Row.get 8 (T3 .locals) (m2 (before .before) (before .slice-known .given)) .name;
+        name = Row.get 7 (T3 .locals) (m2 (before .before) (before .slice-known .given)) .name;
         now = seen;
-      } (Row.setRow 7 (7, r7) (T3
-          .locals)) (Row.set 7 (7, r7) record {
-            ptr = Row.get 7 (T3 .locals) (m2 (before .before) (before .slice-known .given)) .ptr;
-            name = Row.get 7 (T3 .locals) (m2 (before .before)
+      } (Row.setRow 6 (6, r7) (T3
+          .locals)) (Row.set 6 (6, r7) record {
+            ptr = Row.get 6 (T3 .locals) (m2 (before .before) (before .slice-known .given)) .ptr;
+            name = Row.get 6 (T3 .locals) (m2 (before .before)
                 (before .slice-known .given)) .name;
             now = out;
           } (T3 .locals) (m2 (before .before) (before .slice-known .given))))
 
       abbrev W3 : (before : After-slice-known) → (out : List.List (Referent.rtF (Referent.fInt Y.w64) .Denot)) → (seen : Array'.Array L.u64 32 .Denot) → (p : L.h64 .Mod) → Typed.Want O3
       W3 = λ before out seen p. Typed.inLoop T3 O2 (Typed.Round T3 O2 put0 (λ u vs. Inv·0 (Row.get 1 (T3 .locals) u .now) (Row.get 2 (T3 .locals) u .now) (Row.get 3 (T3 .locals) u .now)
-          (Row.get 4 (T3 .locals) u) (Row.get 5 (T3 .locals) u) (Row.get 6 (T3 .locals) u) (Row.get 7 (T3 .locals) u .now) (Row.get 8 (T3 .locals) u .now) (Row.get 9 (T3 .locals) u) (vs .0)
-          (vs .1) (vs .2)) (λ u vs. μ·0 (Row.get 1 (T3 .locals) u .now) (Row.get 2 (T3 .locals) u .now) (Row.get 3 (T3 .locals) u .now) (Row.get 4 (T3 .locals) u) (Row.get 5 (T3 .locals) u)
-          (Row.get 6 (T3 .locals) u) (Row.get 7 (T3 .locals) u .now) (Row.get 8 (T3 .locals) u .now) (Row.get 9 (T3 .locals) u) (vs .0) (vs .1) (vs .2)) at30 (m2 (before .before) (before
-          .slice-known .given)) (out, seen, p)) (W2 (before .before) (before .slice-known .given))
+          (Row.get 4 (T3 .locals) u) (Row.get 5 (T3 .locals) u) (Row.get 6 (T3 .locals) u .now) (Row.get 7 (T3 .locals) u .now) (Row.get 8 (T3 .locals) u) (vs .0) (vs .1) (vs .2)) (λ u vs.
+          μ·0 (Row.get 1 (T3 .locals) u .now) (Row.get 2 (T3 .locals) u .now) (Row.get 3 (T3 .locals) u .now) (Row.get 4 (T3 .locals) u) (Row.get 5 (T3 .locals) u) (Row.get 6 (T3 .locals) u
+          .now) (Row.get 7 (T3 .locals) u .now) (Row.get 8 (T3 .locals) u) (vs .0) (vs .1) (vs .2)) at29 (m2 (before .before) (before .slice-known .given)) (out, seen, p)) (W2 (before
+          .before) (before .slice-known .given))
 
       abbrev pub m4 : (before : After-slice-known) → (out : List.List (Referent.rtF (Referent.fInt Y.w64) .Denot)) → (seen : Array'.Array L.u64 32 .Denot) → (p : L.h64 .Mod) → Typed.Mo T5
       m4 = λ before out seen p. s2 .next (m3 before out seen p)
 
       abbrev W4 : (before : After-slice-known) → (out : List.List (Referent.rtF (Referent.fInt Y.w64) .Denot)) → (seen : Array'.Array L.u64 32 .Denot) → (p : L.h64 .Mod) → Typed.Want O4
-      W4 = λ before out seen p. Typed.wantNext T6 O3 (at28 (W3 before out seen p)) (W3 before out seen p)
+      W4 = λ before out seen p. Typed.wantNext T6 O3 (at27 (W3 before out seen p)) (W3 before out seen p)
 
       module _ (before· : After-slice-known) where
         pub record At-loop·own : Type 0 where
@@ -1419,9 +1430,8 @@ module _ (claims· : Claims) where
           pub p : L.h64 .Mod
           pub inv : Inv·0 (Row.get 1 (T3 .locals) (m2 (before· .before) (before· .slice-known .given)) .now) (Row.get 2 (T3 .locals) (m2 (before· .before) (before· .slice-known .given))
               .now) (Row.get 3 (T3 .locals) (m2 (before· .before) (before· .slice-known .given)) .now) (Row.get 4 (T3 .locals) (m2 (before· .before) (before· .slice-known .given))) (Row.get
-              5 (T3 .locals) (m2 (before· .before) (before· .slice-known .given))) (Row.get 6 (T3 .locals) (m2 (before· .before) (before· .slice-known .given))) (Row.get 7 (T3 .locals) (m2
-              (before· .before) (before· .slice-known .given)) .now) (Row.get 8 (T3 .locals) (m2 (before· .before) (before· .slice-known .given)) .now) (Row.get 9 (T3 .locals) (m2 (before·
-              .before) (before· .slice-known .given))) out seen p
+              5 (T3 .locals) (m2 (before· .before) (before· .slice-known .given))) (Row.get 6 (T3 .locals) (m2 (before· .before) (before· .slice-known .given)) .now) (Row.get 7 (T3 .locals)
+              (m2 (before· .before) (before· .slice-known .given)) .now) (Row.get 8 (T3 .locals) (m2 (before· .before) (before· .slice-known .given))) out seen p
 
       pub record At-loop : Type 0 where
         pub before : After-slice-known
@@ -1429,7 +1439,7 @@ module _ (claims· : Claims) where
 
       module _ (before· : At-loop) where
         pub record In-loop·own : Type 0 where
-          pub taken : Nat._<_ (Row.get 9 (T3 .locals) (m3 (before· .before) (before· .loop .out) (before· .loop .seen) (before· .loop .p))) (Row.get 4 (T3 .locals) (m3 (before· .before)
+          pub taken : Nat._<_ (Row.get 8 (T3 .locals) (m3 (before· .before) (before· .loop .out) (before· .loop .seen) (before· .loop .p))) (Row.get 4 (T3 .locals) (m3 (before· .before)
               (before· .loop .out) (before· .loop .seen) (before· .loop .p)))
 
       pub record In-loop : Type 0 where
@@ -1441,7 +1451,7 @@ module _ (claims· : Claims) where
 
       module _ (before· : At-loop) where
         pub record After-loop·own : Type 0 where
-          pub left : Nat._≤_ (Row.get 4 (T3 .locals) (m3 (before· .before) (before· .loop .out) (before· .loop .seen) (before· .loop .p))) (Row.get 9 (T3 .locals) (m3 (before· .before)
+          pub left : Nat._≤_ (Row.get 4 (T3 .locals) (m3 (before· .before) (before· .loop .out) (before· .loop .seen) (before· .loop .p))) (Row.get 8 (T3 .locals) (m3 (before· .before)
               (before· .loop .out) (before· .loop .seen) (before· .loop .p)))
 
       pub record After-loop : Type 0 where
@@ -1454,215 +1464,206 @@ module _ (claims· : Claims) where
       abbrev pub m7 : (before : At-loop) → Typed.Mo T9
       m7 = λ before. s5 (m6 before)
 
-      abbrev pub m8 : (before : At-loop) → Typed.Mo T10
-      m8 = λ before. s6 (m7 before)
-
       abbrev pub Need-slot-at-requires : Type 0
-      Need-slot-at-requires = (c : In-loop) → s7 .asks (m5 (c .before))
+      Need-slot-at-requires = (c : In-loop) → s6 .asks (m5 (c .before))
 
-      abbrev pub m9 : (before : In-loop) → (given : s7 .gives (m5 (before .before))) → Typed.Mo T11
-      m9 = λ before given. s7 .next (m5 (before .before)) given
+      abbrev pub m8 : (before : In-loop) → (given : s6 .gives (m5 (before .before))) → Typed.Mo T10
+      m8 = λ before given. s6 .next (m5 (before .before)) given
 
       module _ (before· : In-loop) where
         abbrev pub After-slot-at·own : Type 0
-        After-slot-at·own = Called.Called ps·0 r·0 (claims· .1) T6 (record { pos = 3; ty = Y.tyRef (Y.named 2) Y.imm y7; ref = λ x. x }, (Num.vAt 9 λ x. x, tt)) (m5 (before· .before))
+        After-slot-at·own = Called.Called ps·0 r·0 (claims· .1) T6 (record { pos = 3; ty = Y.tyRef (Y.named 2) Y.imm y7; ref = λ x. x }, (Num.vAt 8 λ x. x, tt)) (m5 (before· .before))
 
       pub record After-slot-at : Type 0 where
         pub before : In-loop
         pub slot-at : After-slot-at·own before
 
-      abbrev pub After-slot-at·gave : (c : After-slot-at) → s7 .gives (m5 (c .before .before))
-      After-slot-at·gave = λ c. Called.given ps·0 r·0 (claims· .1) T6 (record { pos = 3; ty = Y.tyRef (Y.named 2) Y.imm y7; ref = λ x. x }, (Num.vAt 9 λ x. x, tt)) (m5 (c .before .before))
+      abbrev pub After-slot-at·gave : (c : After-slot-at) → s6 .gives (m5 (c .before .before))
+      After-slot-at·gave = λ c. Called.given ps·0 r·0 (claims· .1) T6 (record { pos = 3; ty = Y.tyRef (Y.named 2) Y.imm y7; ref = λ x. x }, (Num.vAt 8 λ x. x, tt)) (m5 (c .before .before))
           (c .slot-at)
 
       abbrev pub Need-peek-requires : Type 0
-      Need-peek-requires = (c : After-slot-at) → s8 .asks (m9 (c .before) (After-slot-at·gave c))
+      Need-peek-requires = (c : After-slot-at) → s7 .asks (m8 (c .before) (After-slot-at·gave c))
 
-      abbrev pub m10 : (before : After-slot-at) → (given : s8 .gives (m9 (before .before) (After-slot-at·gave before))) → Typed.Mo T12
-      m10 = λ before given. s8 .next (m9 (before .before) (After-slot-at·gave before)) given
+      abbrev pub m9 : (before : After-slot-at) → (given : s7 .gives (m8 (before .before) (After-slot-at·gave before))) → Typed.Mo T11
+      m9 = λ before given. s7 .next (m8 (before .before) (After-slot-at·gave before)) given
 
       module _ (before· : After-slot-at) where
         abbrev pub After-peek·own : Type 0
-        After-peek·own = Called.Called ps·1 r·1 (claims· .3) T11 (record { pos = 1; ty = Y.tyRef (Y.named 0) Y.imm S.named; ref = λ x. x }, (Num.vAt 10 λ x. x, tt)) (m9 (before· .before)
+        After-peek·own = Called.Called ps·1 r·1 (claims· .3) T10 (record { pos = 1; ty = Y.tyRef (Y.named 0) Y.imm S.named; ref = λ x. x }, (Num.vAt 9 λ x. x, tt)) (m8 (before· .before)
             (After-slot-at·gave before·))
 
       pub record After-peek : Type 0 where
         pub before : After-slot-at
         pub peek : After-peek·own before
 
-      abbrev pub After-peek·gave : (c : After-peek) → s8 .gives (m9 (c .before .before) (After-slot-at·gave (c .before)))
-      After-peek·gave = λ c. Called.given ps·1 r·1 (claims· .3) T11 (record { pos = 1; ty = Y.tyRef (Y.named 0) Y.imm S.named; ref = λ x. x }, (Num.vAt 10 λ x. x, tt)) (m9 (c .before
+      abbrev pub After-peek·gave : (c : After-peek) → s7 .gives (m8 (c .before .before) (After-slot-at·gave (c .before)))
+      After-peek·gave = λ c. Called.given ps·1 r·1 (claims· .3) T10 (record { pos = 1; ty = Y.tyRef (Y.named 0) Y.imm S.named; ref = λ x. x }, (Num.vAt 9 λ x. x, tt)) (m8 (c .before
           .before) (After-slot-at·gave (c .before))) (c .peek)
 
       abbrev pub Need-sub-show : Type 0
-      Need-sub-show = (c : After-peek) → s9 .asks (m10 (c .before) (After-peek·gave c))
+      Need-sub-show = (c : After-peek) → s8 .asks (m9 (c .before) (After-peek·gave c))
 
-      abbrev pub m11 : (before : After-slot-at) → (given : s8 .gives (m9 (before .before) (After-slot-at·gave before))) → Typed.Mo T13
-      m11 = λ before given. s9 .next (m10 before given)
+      abbrev pub m10 : (before : After-slot-at) → (given : s7 .gives (m8 (before .before) (After-slot-at·gave before))) → Typed.Mo T12
+      m10 = λ before given. s8 .next (m9 before given)
 
       abbrev pub Need-sub-show-2 : Type 0
-      Need-sub-show-2 = (c : After-peek) → s10 .asks (m11 (c .before) (After-peek·gave c))
+      Need-sub-show-2 = (c : After-peek) → s9 .asks (m10 (c .before) (After-peek·gave c))
 
-      abbrev pub m12 : (before : After-slot-at) → (given : s8 .gives (m9 (before .before) (After-slot-at·gave before))) → Typed.Mo T14
-      m12 = λ before given. s10 .next (m11 before given)
+      abbrev pub m11 : (before : After-slot-at) → (given : s7 .gives (m8 (before .before) (After-slot-at·gave before))) → Typed.Mo T13
+      m11 = λ before given. s9 .next (m10 before given)
 
-      abbrev pub m13 : (before : After-slot-at) → (given : s8 .gives (m9 (before .before) (After-slot-at·gave before))) → Typed.Mo T15
-      m13 = λ before given. s11 (m12 before given)
+      abbrev pub m12 : (before : After-slot-at) → (given : s7 .gives (m8 (before .before) (After-slot-at·gave before))) → Typed.Mo T14
+      m12 = λ before given. s10 (m11 before given)
 
-      abbrev pub m14 : (before : After-peek) → (given : s13 .gives (m13 (before .before) (After-peek·gave before))) → Typed.Mo T17
-      m14 = λ before given. s13 .next (m13 (before .before) (After-peek·gave before)) given
+      abbrev pub m13 : (before : After-peek) → (given : s12 .gives (m12 (before .before) (After-peek·gave before))) → Typed.Mo T16
+      m13 = λ before given. s12 .next (m12 (before .before) (After-peek·gave before)) given
 
-      abbrev pub m15 : (before : After-peek) → (given : s13 .gives (m13 (before .before) (After-peek·gave before))) → Typed.Mo T18
-      m15 = λ before given. s14 .next (m14 before given)
+      abbrev pub m14 : (before : After-peek) → (given : s12 .gives (m12 (before .before) (After-peek·gave before))) → Typed.Mo T17
+      m14 = λ before given. s13 .next (m13 before given)
 
       module _ (before· : After-peek) where
         pub record After-show-arg·own : Type 0 where
-          pub given : s13 .gives (m13 (before· .before) (After-peek·gave before·))
+          pub given : s12 .gives (m12 (before· .before) (After-peek·gave before·))
 
       pub record After-show-arg : Type 0 where
         pub before : After-peek
         pub show-arg : After-show-arg·own before
 
-      abbrev pub m16 : (before : After-show-arg) → (given : s16 .gives (m15 (before .before) (before .show-arg .given))) → Typed.Mo T20
-      m16 = λ before given. s16 .next (m15 (before .before) (before .show-arg .given)) given
+      abbrev pub m15 : (before : After-show-arg) → (given : s15 .gives (m14 (before .before) (before .show-arg .given))) → Typed.Mo T19
+      m15 = λ before given. s15 .next (m14 (before .before) (before .show-arg .given)) given
 
       module _ (before· : After-show-arg) where
         pub record After-show-arg2·own : Type 0 where
-          pub given : s16 .gives (m15 (before· .before) (before· .show-arg .given))
+          pub given : s15 .gives (m14 (before· .before) (before· .show-arg .given))
 
       pub record After-show-arg2 : Type 0 where
         pub before : After-show-arg
         pub show-arg2 : After-show-arg2·own before
 
       abbrev pub Need-show-requires : Type 0
-      Need-show-requires = (c : After-show-arg2) → s17 .asks (m16 (c .before) (c .show-arg2 .given))
+      Need-show-requires = (c : After-show-arg2) → s16 .asks (m15 (c .before) (c .show-arg2 .given))
 
-      abbrev pub m17 : (before : After-show-arg2) → (given : s17 .gives (m16 (before .before) (before .show-arg2 .given))) → Typed.Mo T21
-      m17 = λ before given. s17 .next (m16 (before .before) (before .show-arg2 .given)) given
+      abbrev pub m16 : (before : After-show-arg2) → (given : s16 .gives (m15 (before .before) (before .show-arg2 .given))) → Typed.Mo T20
+      m16 = λ before given. s16 .next (m15 (before .before) (before .show-arg2 .given)) given
 
       module _ (before· : After-show-arg2) where
         abbrev pub After-show·own : Type 0
-        After-show·own = Called.Called ps·2 r·2 (claims· .5) T20 (
+        After-show·own = Called.Called ps·2 r·2 (claims· .5) T19 (
           record { pos = 2; ty = Y.tyRef (Y.named 1) Y.imm y8; ref = λ x. x },
           (
-            Num.vAt 10 λ x. x,
+            Num.vAt 9 λ x. x,
             (
               record {
-                pos = 11;
+                pos = 10;
                 st = [];
                 d =
                     0;
                 at = λ x. x;
               },
               (
-                Num.vAt 9 λ x. x,
+                Num.vAt 8 λ x. x,
                 (
-                  Num.vAt 15 λ x. x,
+                  Num.vAt 14 λ x. x,
                   (
                     record { pos = 5; st = []; d = 0; at = λ x. x },
                     (
-                      record { pos = 6; st = []; d = 0; at = λ x. x },
-                      (
-                        record {
-                          pos = 17;
-                          ty = Y.tyRef Y.erased Y.mut (Y.tyInt Y.w64);
-                          ref = λ x. x;
-                        },
-                        (record { pos = 18; ty = Y.tyRef Y.erased Y.mut y9; ref = λ x. x }, tt),
-                      ),
+                      record {
+                        pos = 16;
+                        ty = Y.tyRef Y.erased Y.mut (Y.tyInt Y.w64);
+                        ref =
+                            λ x. x;
+                      },
+                      (record { pos = 17; ty = Y.tyRef Y.erased Y.mut y9; ref = λ x. x }, tt),
                     ),
                   ),
                 ),
               ),
             ),
           ),
-        ) (m16 (before· .before) (before·
-            .show-arg2 .given))
+        ) (m15 (before· .before) (before· .show-arg2 .given))
 
       pub record After-show : Type 0 where
         pub before : After-show-arg2
         pub show : After-show·own before
 
-      abbrev pub After-show·gave : (c : After-show) → s17 .gives (m16 (c .before .before) (c .before .show-arg2 .given))
-      After-show·gave = λ c. Called.given ps·2 r·2 (claims· .5) T20 (
+      abbrev pub After-show·gave : (c : After-show) → s16 .gives (m15 (c .before .before) (c .before .show-arg2 .given))
+      After-show·gave = λ c. Called.given ps·2 r·2 (claims· .5) T19 (
         record { pos = 2; ty = Y.tyRef (Y.named 1) Y.imm y8; ref = λ x. x },
         (
-          Num.vAt 10 λ x. x,
+          Num.vAt 9 λ x. x,
           (
             record {
-              pos = 11;
+              pos = 10;
               st = [];
               d
                   = 0;
               at = λ x. x;
             },
             (
-              Num.vAt 9 λ x. x,
+              Num.vAt 8 λ x. x,
               (
-                Num.vAt 15 λ x. x,
+                Num.vAt 14 λ x. x,
                 (
                   record { pos = 5; st = []; d = 0; at = λ x. x },
                   (
-                    record { pos = 6; st = []; d = 0; at = λ x. x },
-                    (
-                      record {
-                        pos = 17;
-                        ty = Y.tyRef Y.erased Y.mut (Y.tyInt Y.w64);
-                        ref = λ x. x;
-                      },
-                      (record { pos = 18; ty = Y.tyRef Y.erased Y.mut y9; ref = λ x. x }, tt),
-                    ),
+                    record {
+                      pos = 16;
+                      ty = Y.tyRef Y.erased Y.mut (Y.tyInt Y.w64);
+                      ref =
+                          λ x. x;
+                    },
+                    (record { pos = 17; ty = Y.tyRef Y.erased Y.mut y9; ref = λ x. x }, tt),
                   ),
                 ),
               ),
             ),
           ),
         ),
-      ) (m16 (c .before .before) (c .before
-          .show-arg2 .given)) (c .show)
+      ) (m15 (c .before .before) (c .before .show-arg2 .given)) (c .show)
 
-      abbrev pub m18 : (before : After-show-arg2) → (given : s17 .gives (m16 (before .before) (before .show-arg2 .given))) → Typed.Mo T22
+      abbrev pub m17 : (before : After-show-arg2) → (given : s16 .gives (m15 (before .before) (before .show-arg2 .given))) → Typed.Mo T21
+      m17 = λ before given. s17 (m16 before given)
+
+      abbrev pub m18 : (before : After-show-arg2) → (given : s16 .gives (m15 (before .before) (before .show-arg2 .given))) → Typed.Mo T22
       m18 = λ before given. s18 (m17 before given)
 
-      abbrev pub m19 : (before : After-show-arg2) → (given : s17 .gives (m16 (before .before) (before .show-arg2 .given))) → Typed.Mo T23
+      abbrev pub m19 : (before : After-show-arg2) → (given : s16 .gives (m15 (before .before) (before .show-arg2 .given))) → Typed.Mo T23
       m19 = λ before given. s19 (m18 before given)
 
-      abbrev pub m20 : (before : After-show-arg2) → (given : s17 .gives (m16 (before .before) (before .show-arg2 .given))) → Typed.Mo T24
-      m20 = λ before given. s20 (m19 before given)
-
-      abbrev pub m21 : (before : After-show) → (given : s22 .gives (m20 (before .before) (After-show·gave before))) → Typed.Mo T26
-      m21 = λ before given. s22 .next (m20 (before .before) (After-show·gave before)) given
+      abbrev pub m20 : (before : After-show) → (given : s21 .gives (m19 (before .before) (After-show·gave before))) → Typed.Mo T25
+      m20 = λ before given. s21 .next (m19 (before .before) (After-show·gave before)) given
 
       module _ (before· : After-show) where
         pub record After-out·own : Type 0 where
-          pub given : s22 .gives (m20 (before· .before) (After-show·gave before·))
+          pub given : s21 .gives (m19 (before· .before) (After-show·gave before·))
 
       pub record After-out : Type 0 where
         pub before : After-show
         pub out : After-out·own before
 
-      abbrev pub m22 : (before : After-out) → (given : s23 .gives (m21 (before .before) (before .out .given))) → Typed.Mo T27
-      m22 = λ before given. s23 .next (m21 (before .before) (before .out .given)) given
+      abbrev pub m21 : (before : After-out) → (given : s22 .gives (m20 (before .before) (before .out .given))) → Typed.Mo T26
+      m21 = λ before given. s22 .next (m20 (before .before) (before .out .given)) given
 
-      abbrev pub m23 : (before : After-out) → (given : s23 .gives (m21 (before .before) (before .out .given))) → Typed.Mo T30
-      m23 = λ before given. s26 .next (m22 before given)
+      abbrev pub m22 : (before : After-out) → (given : s22 .gives (m20 (before .before) (before .out .given))) → Typed.Mo T29
+      m22 = λ before given. s25 .next (m21 before given)
 
       module _ (before· : After-out) where
         pub record After-slice-known2·own : Type 0 where
-          pub given : s23 .gives (m21 (before· .before) (before· .out .given))
+          pub given : s22 .gives (m20 (before· .before) (before· .out .given))
 
       pub record After-slice-known2 : Type 0 where
         pub before : After-out
         pub slice-known2 : After-slice-known2·own before
 
       abbrev pub Need-add-p : Type 0
-      Need-add-p = (c : After-slice-known2) → s28 .asks (m23 (c .before) (c .slice-known2 .given))
+      Need-add-p = (c : After-slice-known2) → s27 .asks (m22 (c .before) (c .slice-known2 .given))
 
-      abbrev pub m24 : (before : After-out) → (given : s23 .gives (m21 (before .before) (before .out .given))) → Typed.Mo T32
-      m24 = λ before given. s28 .next (m23 before given)
+      abbrev pub m23 : (before : After-out) → (given : s22 .gives (m20 (before .before) (before .out .given))) → Typed.Mo T31
+      m23 = λ before given. s27 .next (m22 before given)
 
-      abbrev pub m25 : (before : After-out) → (given : s23 .gives (m21 (before .before) (before .out .given))) → Typed.Mo T33
-      m25 = λ before given. s29 (m24 before given)
+      abbrev pub m24 : (before : After-out) → (given : s22 .gives (m20 (before .before) (before .out .given))) → Typed.Mo T32
+      m24 = λ before given. s28 (m23 before given)
 
       abbrev pub Need-loop-less : Type 0
       Need-loop-less = (c : After-slice-known2) → Nat._<_ (μ·0 (Row.get 1 (T3 .locals) (m2 (c .before .before .before .before .before .before .before .before .before .before) (c .before
@@ -1672,24 +1673,22 @@ module _ (claims· : Claims) where
           (T3 .locals) (m2 (c .before .before .before .before .before .before .before .before .before .before) (c .before .before .before .before .before .before .before .before .before
           .slice-known .given))) (Row.get 5 (T3 .locals) (m2 (c .before .before .before .before .before .before .before .before .before .before) (c .before .before .before .before .before
           .before .before .before .before .slice-known .given))) (Row.get 6 (T3 .locals) (m2 (c .before .before .before .before .before .before .before .before .before .before) (c .before
-          .before .before .before .before .before .before .before .before .slice-known .given))) (Row.get 7 (T3 .locals) (m2 (c .before .before .before .before .before .before .before
+          .before .before .before .before .before .before .before .before .slice-known .given)) .now) (Row.get 7 (T3 .locals) (m2 (c .before .before .before .before .before .before .before
           .before .before .before) (c .before .before .before .before .before .before .before .before .before .slice-known .given)) .now) (Row.get 8 (T3 .locals) (m2 (c .before .before
-          .before .before .before .before .before .before .before .before) (c .before .before .before .before .before .before .before .before .before .slice-known .given)) .now) (Row.get 9
-          (T3 .locals) (m2 (c .before .before .before .before .before .before .before .before .before .before) (c .before .before .before .before .before .before .before .before .before
-          .slice-known .given))) (Row.get 7 (T3 .locals) (m25 (c .before) (c .slice-known2 .given)) .now) (Row.get 8 (T3 .locals) (m25 (c .before) (c .slice-known2 .given)) .now) (Row.get 9
-          (T3 .locals) (m25 (c .before) (c .slice-known2 .given)))) (μ·0 (Row.get 1 (T3 .locals) (m2 (c .before .before .before .before .before .before .before .before .before .before) (c
-          .before .before .before .before .before .before .before .before .before .slice-known .given)) .now) (Row.get 2 (T3 .locals) (m2 (c .before .before .before .before .before .before
-          .before .before .before .before) (c .before .before .before .before .before .before .before .before .before .slice-known .given)) .now) (Row.get 3 (T3 .locals) (m2 (c .before
-          .before .before .before .before .before .before .before .before .before) (c .before .before .before .before .before .before .before .before .before .slice-known .given)) .now)
-          (Row.get 4 (T3 .locals) (m2 (c .before .before .before .before .before .before .before .before .before .before) (c .before .before .before .before .before .before .before .before
-          .before .slice-known .given))) (Row.get 5 (T3 .locals) (m2 (c .before .before .before .before .before .before .before .before .before .before) (c .before .before .before .before
-          .before .before .before .before .before .slice-known .given))) (Row.get 6 (T3 .locals) (m2 (c .before .before .before .before .before .before .before .before .before .before) (c
-          .before .before .before .before .before .before .before .before .before .slice-known .given))) (Row.get 7 (T3 .locals) (m2 (c .before .before .before .before .before .before
-          .before .before .before .before) (c .before .before .before .before .before .before .before .before .before .slice-known .given)) .now) (Row.get 8 (T3 .locals) (m2 (c .before
-          .before .before .before .before .before .before .before .before .before) (c .before .before .before .before .before .before .before .before .before .slice-known .given)) .now)
-          (Row.get 9 (T3 .locals) (m2 (c .before .before .before .before .before .before .before .before .before .before) (c .before .before .before .before .before .before .before .before
-          .before .slice-known .given))) (c .before .before .before .before .before .before .before .before .loop .out) (c .before .before .before .before .before .before .before .before
-          .loop .seen) (c .before .before .before .before .before .before .before .before .loop .p))
+          .before .before .before .before .before .before .before .before) (c .before .before .before .before .before .before .before .before .before .slice-known .given))) (Row.get 6 (T3
+          .locals) (m24 (c .before) (c .slice-known2 .given)) .now) (Row.get 7 (T3 .locals) (m24 (c .before) (c .slice-known2 .given)) .now) (Row.get 8 (T3 .locals) (m24 (c .before) (c
+          .slice-known2 .given)))) (μ·0 (Row.get 1 (T3 .locals) (m2 (c .before .before .before .before .before .before .before .before .before .before) (c .before .before .before .before
+          .before .before .before .before .before .slice-known .given)) .now) (Row.get 2 (T3 .locals) (m2 (c .before .before .before .before .before .before .before .before .before .before)
+          (c .before .before .before .before .before .before .before .before .before .slice-known .given)) .now) (Row.get 3 (T3 .locals) (m2 (c .before .before .before .before .before
+          .before .before .before .before .before) (c .before .before .before .before .before .before .before .before .before .slice-known .given)) .now) (Row.get 4 (T3 .locals) (m2 (c
+          .before .before .before .before .before .before .before .before .before .before) (c .before .before .before .before .before .before .before .before .before .slice-known .given)))
+          (Row.get 5 (T3 .locals) (m2 (c .before .before .before .before .before .before .before .before .before .before) (c .before .before .before .before .before .before .before .before
+          .before .slice-known .given))) (Row.get 6 (T3 .locals) (m2 (c .before .before .before .before .before .before .before .before .before .before) (c .before .before .before .before
+          .before .before .before .before .before .slice-known .given)) .now) (Row.get 7 (T3 .locals) (m2 (c .before .before .before .before .before .before .before .before .before .before)
+          (c .before .before .before .before .before .before .before .before .before .slice-known .given)) .now) (Row.get 8 (T3 .locals) (m2 (c .before .before .before .before .before
+          .before .before .before .before .before) (c .before .before .before .before .before .before .before .before .before .slice-known .given))) (c .before .before .before .before
+          .before .before .before .before .loop .out) (c .before .before .before .before .before .before .before .before .loop .seen) (c .before .before .before .before .before .before
+          .before .before .loop .p))
 
       abbrev pub Need-loop-again : Type 0
       Need-loop-again = (c : After-slice-known2) → Inv·0 (Row.get 1 (T3 .locals) (m2 (c .before .before .before .before .before .before .before .before .before .before) (c .before .before
@@ -1699,35 +1698,34 @@ module _ (claims· : Claims) where
           .locals) (m2 (c .before .before .before .before .before .before .before .before .before .before) (c .before .before .before .before .before .before .before .before .before
           .slice-known .given))) (Row.get 5 (T3 .locals) (m2 (c .before .before .before .before .before .before .before .before .before .before) (c .before .before .before .before .before
           .before .before .before .before .slice-known .given))) (Row.get 6 (T3 .locals) (m2 (c .before .before .before .before .before .before .before .before .before .before) (c .before
-          .before .before .before .before .before .before .before .before .slice-known .given))) (Row.get 7 (T3 .locals) (m2 (c .before .before .before .before .before .before .before
+          .before .before .before .before .before .before .before .before .slice-known .given)) .now) (Row.get 7 (T3 .locals) (m2 (c .before .before .before .before .before .before .before
           .before .before .before) (c .before .before .before .before .before .before .before .before .before .slice-known .given)) .now) (Row.get 8 (T3 .locals) (m2 (c .before .before
-          .before .before .before .before .before .before .before .before) (c .before .before .before .before .before .before .before .before .before .slice-known .given)) .now) (Row.get 9
-          (T3 .locals) (m2 (c .before .before .before .before .before .before .before .before .before .before) (c .before .before .before .before .before .before .before .before .before
-          .slice-known .given))) (Row.get 7 (T3 .locals) (m25 (c .before) (c .slice-known2 .given)) .now) (Row.get 8 (T3 .locals) (m25 (c .before) (c .slice-known2 .given)) .now) (Row.get 9
-          (T3 .locals) (m25 (c .before) (c .slice-known2 .given)))
+          .before .before .before .before .before .before .before .before) (c .before .before .before .before .before .before .before .before .before .slice-known .given))) (Row.get 6 (T3
+          .locals) (m24 (c .before) (c .slice-known2 .given)) .now) (Row.get 7 (T3 .locals) (m24 (c .before) (c .slice-known2 .given)) .now) (Row.get 8 (T3 .locals) (m24 (c .before) (c
+          .slice-known2 .given)))
+
+      abbrev pub m25 : (before : At-loop) → Typed.Mo T33
+      m25 = λ before. s29 (m7 before)
 
       abbrev pub m26 : (before : At-loop) → Typed.Mo T34
-      m26 = λ before. s30 (m8 before)
+      m26 = λ before. s30 (m25 before)
 
       abbrev pub m27 : (before : At-loop) → Typed.Mo T35
       m27 = λ before. s31 (m26 before)
 
-      abbrev pub m28 : (before : At-loop) → Typed.Mo T36
-      m28 = λ before. s32 (m27 before)
-
       abbrev pub Need-same-length : Type 0
-      Need-same-length = (c : After-loop) → MutSlice.SameLen (Row.get 7 (T36 .locals) (m28 (c .before))) (dens (c .before .before .before .κs) (c .before .before .before .args) .1 .1 .1 .1
-          .1 .1 .0)
+      Need-same-length = (c : After-loop) → MutSlice.SameLen (Row.get 6 (T35 .locals) (m27 (c .before))) (dens (c .before .before .before .κs) (c .before .before .before .args) .1 .1 .1 .1
+          .1 .0)
 
       abbrev pub Need-returns : Type 0
       Need-returns = (c : After-loop) → Post· (c .before .before .before .κs) (dens (c .before .before .before .κs) (c .before .before .before .args)) (Function.resV r (c .before .before
-          .before .κs) (m28 (c .before) .0)) (Clauses.atExit (Kinds.endedOf 5 ps r) (c .before .before .before .κs) (dens (c .before .before .before .κs) (c .before .before .before .args))
-          (Enter.lastsP (c .before .before .before .κs) 1 ps xs (dens (c .before .before .before .κs) (c .before .before .before .args)) (m28 (c .before) .1)))
+          .before .κs) (m27 (c .before) .0)) (Clauses.atExit (Kinds.endedOf 5 ps r) (c .before .before .before .κs) (dens (c .before .before .before .κs) (c .before .before .before .args))
+          (Enter.lastsP (c .before .before .before .κs) 1 ps xs (dens (c .before .before .before .κs) (c .before .before .before .args)) (m27 (c .before) .1)))
 
       module _ (loop-holds : Need-loop-holds) (slot-at-requires : Need-slot-at-requires) (peek-requires : Need-peek-requires) (sub-show : Need-sub-show) (sub-show-2 : Need-sub-show-2)
           (show-requires : Need-show-requires) (add-p : Need-add-p) (loop-less : Need-loop-less) (loop-again : Need-loop-again) (same-length : Need-same-length) (returns : Need-returns)
         where
-          lay7 : (c : After-loop) → at36 (W0 (c .before .before .before .κs) (c .before .before .before .args)) (m8 (c .before))
+          lay7 : (c : After-loop) → at35 (W0 (c .before .before .before .κs) (c .before .before .before .args)) (m7 (c .before))
           lay7 = λ c. (
             (
               refl,
@@ -1740,15 +1738,12 @@ module _ (claims· : Claims) where
                     (
                       tt,
                       (
-                        tt,
-                        (
-                          MutSlice.fix-len (Row.get 7 (T36 .locals) (m28 (c .before)) .ptr) (Row.get 7 (T36 .locals) (m28 (c .before)) .name) (Row.get 7 (T36
-                              .locals) (m28 (c .before)) .now) (dens (c .before .before .before .κs) (c .before .before .before .args) .1 .1 .1 .1 .1 .1 .0 .now) (same-length record {
-                                before = c .before;
-                                loop-test = c .loop-test;
-                              }),
-                          (refl, tt),
-                        ),
+                        MutSlice.fix-len (Row.get 6 (T35 .locals) (m27 (c .before)) .ptr) (Row.get 6 (T35 .locals) (m27 (c .before)) .name) (Row.get 6 (T35
+                            .locals) (m27 (c .before)) .now) (dens (c .before .before .before .κs) (c .before .before .before .args) .1 .1 .1 .1 .1 .0 .now) (same-length record {
+                              before = c .before;
+                              loop-test = c .loop-test;
+                            }),
+                        (refl, tt),
                       ),
                     ),
                   ),
@@ -1758,8 +1753,8 @@ module _ (claims· : Claims) where
             returns record { before = c .before; loop-test = c .loop-test },
           )
 
-          lay6 : (c : After-show) → at17 (W3 (c .before .before .before .before .before .before .before) (c .before .before .before .before .before .before .loop .out) (c .before .before
-              .before .before .before .before .loop .seen) (c .before .before .before .before .before .before .loop .p)) (m17 (c .before) (After-show·gave c))
+          lay6 : (c : After-show) → at16 (W3 (c .before .before .before .before .before .before .before) (c .before .before .before .before .before .before .loop .out) (c .before .before
+              .before .before .before .before .loop .seen) (c .before .before .before .before .before .before .loop .p)) (m16 (c .before) (After-show·gave c))
           lay6 = λ c. (
             refl,
             λ g. λ g'. (
@@ -1778,17 +1773,16 @@ module _ (claims· : Claims) where
                       .before .before .slice-known .given)) .now) (Row.get 4 (T3 .locals) (m2 (c .before .before .before .before .before .before .before .before) (c .before .before .before .before
                       .before .before .before .slice-known .given))) (Row.get 5 (T3 .locals) (m2 (c .before .before .before .before .before .before .before .before) (c .before .before .before .before
                       .before .before .before .slice-known .given))) (Row.get 6 (T3 .locals) (m2 (c .before .before .before .before .before .before .before .before) (c .before .before .before .before
-                      .before .before .before .slice-known .given))) (Row.get 7 (T3 .locals) (m2 (c .before .before .before .before .before .before .before .before) (c .before .before .before .before
-                      .before .before .before .slice-known .given)) .now) (Row.get 8 (T3 .locals) (m2 (c .before .before .before .before .before .before .before .before) (c .before .before .before
-                      .before .before .before .before .slice-known .given)) .now) (Row.get 9 (T3 .locals) (m2 (c .before .before .before .before .before .before .before .before) (c .before .before
-                      .before .before .before .before .before .slice-known .given))) (Row.get 7 (T3 .locals) (m25 record {
+                      .before .before .before .slice-known .given)) .now) (Row.get 7 (T3 .locals) (m2 (c .before .before .before .before .before .before .before .before) (c .before .before .before
+                      .before .before .before .before .slice-known .given)) .now) (Row.get 8 (T3 .locals) (m2 (c .before .before .before .before .before .before .before .before) (c .before .before
+                      .before .before .before .before .before .slice-known .given))) (Row.get 6 (T3 .locals) (m24 record {
                         before = record { before = c .before; show = c .show };
                         out = record {
                           given
                               = g;
                         };
-                      } g') .now) (Row.get 8 (T3 .locals) (m25 record { before = record { before = c .before; show = c .show }; out = record { given = g } } g') .now) (Row.get 9 (T3 .locals)
-                      (m25 record { before = record { before = c .before; show = c .show }; out = record { given = g } } g')),
+                      } g') .now) (Row.get 7 (T3 .locals) (m24 record { before = record { before = c .before; show = c .show }; out = record { given = g } } g') .now) (Row.get 8 (T3 .locals)
+                      (m24 record { before = record { before = c .before; show = c .show }; out = record { given = g } } g')),
                   loop-less record {
                     before = record {
                       before = record {
@@ -1802,22 +1796,22 @@ module _ (claims· : Claims) where
                   },
                   (
                     (
-                      Row.get 7 (T3 .locals) (m25 record {
+                      Row.get 6 (T3 .locals) (m24 record {
                         before = record {
                           before = c .before;
                           show = c .show;
                         };
                         out = record { given = g };
                       } g') .now,
-                      Row.get 8 (T3 .locals) (m25 record {
+                      Row.get 7 (T3 .locals) (m24 record {
                         before = record { before = c .before; show = c .show };
                         out = record {
                           given = g;
                         };
                       } g') .now,
-                      Row.get 9 (T3 .locals) (m25 record { before = record { before = c .before; show = c .show }; out = record { given = g } } g'),
+                      Row.get 8 (T3 .locals) (m24 record { before = record { before = c .before; show = c .show }; out = record { given = g } } g'),
                     ),
-                    refl {a = m25 record {
+                    refl {a = m24 record {
                       before =
                           record { before = c .before; show = c .show };
                       out = record { given = g };
@@ -1835,28 +1829,27 @@ module _ (claims· : Claims) where
                         .before .before .before) (c .before .before .before .before .before .before .before .slice-known .given)) .now) (Row.get 4 (T3 .locals) (m2 (c .before .before .before .before
                         .before .before .before .before) (c .before .before .before .before .before .before .before .slice-known .given))) (Row.get 5 (T3 .locals) (m2 (c .before .before .before .before
                         .before .before .before .before) (c .before .before .before .before .before .before .before .slice-known .given))) (Row.get 6 (T3 .locals) (m2 (c .before .before .before .before
-                        .before .before .before .before) (c .before .before .before .before .before .before .before .slice-known .given))) (Row.get 7 (T3 .locals) (m2 (c .before .before .before .before
-                        .before .before .before .before) (c .before .before .before .before .before .before .before .slice-known .given)) .now) (Row.get 8 (T3 .locals) (m2 (c .before .before .before
-                        .before .before .before .before .before) (c .before .before .before .before .before .before .before .slice-known .given)) .now) (Row.get 9 (T3 .locals) (m2 (c .before .before
-                        .before .before .before .before .before .before) (c .before .before .before .before .before .before .before .slice-known .given))) (Row.get 7 (T3 .locals) (m25 record {
+                        .before .before .before .before) (c .before .before .before .before .before .before .before .slice-known .given)) .now) (Row.get 7 (T3 .locals) (m2 (c .before .before .before
+                        .before .before .before .before .before) (c .before .before .before .before .before .before .before .slice-known .given)) .now) (Row.get 8 (T3 .locals) (m2 (c .before .before
+                        .before .before .before .before .before .before) (c .before .before .before .before .before .before .before .slice-known .given))) (Row.get 6 (T3 .locals) (m24 record {
                           before =
                               record { before = c .before; show = c .show };
                           out = record { given = g };
-                        } g') .now) (Row.get 8 (T3 .locals) (m25 record {
+                        } g') .now) (Row.get 7 (T3 .locals) (m24 record {
                           before = record {
                             before = c .before;
                             show = c .show;
                           };
                           out = record { given = g };
-                        } g') .now) (Row.get 9 (T3 .locals) (m25 record { before = record { before = c .before; show = c .show }; out = record { given = g } } g'))},
+                        } g') .now) (Row.get 8 (T3 .locals) (m24 record { before = record { before = c .before; show = c .show }; out = record { given = g } } g'))},
                   ),
                 ),
               ),
             ),
           )
 
-          lay5 : (c : After-peek) → at26 (W3 (c .before .before .before .before) (c .before .before .before .loop .out) (c .before .before .before .loop .seen) (c .before .before .before
-              .loop .p)) (m10 (c .before) (After-peek·gave c))
+          lay5 : (c : After-peek) → at25 (W3 (c .before .before .before .before) (c .before .before .before .loop .out) (c .before .before .before .loop .seen) (c .before .before .before
+              .loop .p)) (m9 (c .before) (After-peek·gave c))
           lay5 = λ c. (
             sub-show record { before = c .before; peek = c .peek },
             (
@@ -1875,28 +1868,28 @@ module _ (claims· : Claims) where
                       show-arg2 = record { given = g' };
                     };
                     show = Called.called ps·2 r·2
-                        (claims· .5) T20 (
+                        (claims· .5) T19 (
                           record { pos = 2; ty = Y.tyRef (Y.named 1) Y.imm y8; ref = λ x. x },
                           (
-                            Num.vAt 10 λ x. x,
+                            Num.vAt 9 λ x. x,
                             (
-                              record { pos = 11; st = []; d = 0; at = λ x. x },
+                              record { pos = 10; st = []; d = 0; at = λ x. x },
                               (
-                                Num.vAt 9 λ x. x,
+                                Num.vAt 8 λ x. x,
                                 (
-                                  Num.vAt 15 λ x. x,
+                                  Num.vAt 14 λ x. x,
                                   (
                                     record { pos = 5; st = []; d = 0; at = λ x. x },
                                     (
-                                      record { pos = 6; st = []; d = 0; at = λ x. x },
+                                      record { pos = 16; ty = Y.tyRef Y.erased Y.mut (Y.tyInt Y.w64); ref = λ x. x },
                                       (
                                         record {
                                           pos = 17;
-                                          ty = Y.tyRef Y.erased Y.mut (Y.tyInt
-                                              Y.w64);
+                                          ty =
+                                              Y.tyRef Y.erased Y.mut y9;
                                           ref = λ x. x;
                                         },
-                                        (record { pos = 18; ty = Y.tyRef Y.erased Y.mut y9; ref = λ x. x }, tt),
+                                        tt,
                                       ),
                                     ),
                                   ),
@@ -1904,38 +1897,35 @@ module _ (claims· : Claims) where
                               ),
                             ),
                           ),
-                        ) (m16 record {
-                          before = record { before = c .before; peek = c .peek };
-                          show-arg = record { given = g };
-                        } g') g'';
+                        ) (m15 record { before = record { before = c .before; peek = c .peek }; show-arg = record { given = g } } g') g'';
                   },
                 ),
               ),
             ),
           )
 
-          lay4 : (c : After-slot-at) → at27 (W3 (c .before .before .before) (c .before .before .loop .out) (c .before .before .loop .seen) (c .before .before .loop .p)) (m9 (c .before)
+          lay4 : (c : After-slot-at) → at26 (W3 (c .before .before .before) (c .before .before .loop .out) (c .before .before .loop .seen) (c .before .before .loop .p)) (m8 (c .before)
               (After-slot-at·gave c))
           lay4 = λ c. (
             peek-requires record { before = c .before; slot-at = c .slot-at },
             λ g. lay5 record {
               before = record { before = c .before; slot-at = c .slot-at };
               peek = Called.called
-                  ps·1 r·1 (claims· .3) T11 (record { pos = 1; ty = Y.tyRef (Y.named 0) Y.imm S.named; ref = λ x. x }, (Num.vAt 10 λ x. x, tt)) (m9 (c .before) (After-slot-at·gave c)) g;
+                  ps·1 r·1 (claims· .3) T10 (record { pos = 1; ty = Y.tyRef (Y.named 0) Y.imm S.named; ref = λ x. x }, (Num.vAt 9 λ x. x, tt)) (m8 (c .before) (After-slot-at·gave c)) g;
             },
           )
 
-          lay3 : (c : In-loop) → at28 (W3 (c .before .before) (c .before .loop .out) (c .before .loop .seen) (c .before .loop .p)) (m5 (c .before))
+          lay3 : (c : In-loop) → at27 (W3 (c .before .before) (c .before .loop .out) (c .before .loop .seen) (c .before .loop .p)) (m5 (c .before))
           lay3 = λ c. (
             slot-at-requires record { before = c .before; loop-test = c .loop-test },
             λ g. lay4 record {
               before = record { before = c .before; loop-test = c .loop-test };
               slot-at =
-                  Called.called ps·0 r·0 (claims· .1) T6 (record { pos = 3; ty = Y.tyRef (Y.named 2) Y.imm y7; ref = λ x. x }, (Num.vAt 9 λ x. x, tt)) (m5 (c .before)) g;
+                  Called.called ps·0 r·0 (claims· .1) T6 (record { pos = 3; ty = Y.tyRef (Y.named 2) Y.imm y7; ref = λ x. x }, (Num.vAt 8 λ x. x, tt)) (m5 (c .before)) g;
             },
           )
 
-          lay2 : (c : After-loop) → at5 (W4 (c .before .before) (c .before .loop .out) (c .before .loop .seen) (c .before .loop .p)) (m4 (c .before .before) (c .before .loop .out) (c .before
+          lay2 : (c : After-loop) → at4 (W4 (c .before .before) (c .before .loop .out) (c .before .loop .seen) (c .before .loop .p)) (m4 (c .before .before) (c .before .loop .out) (c .before
               .loop .seen) (c .before .loop .p))
           lay2 = λ c. lay7 record { before = c .before; loop-test = c .loop-test }
 
@@ -1943,10 +1933,10 @@ module _ (claims· : Claims) where
               .loop .seen) (c .before .loop .p))
           lay1 = λ c. lay3 record { before = c .before; loop-test = c .loop-test }
 
-          pub laid : (c : Start) → at39 (W0 (c .κs) (c .args)) (m0 (c .κs) (c .args))
+          pub laid : (c : Start) → at38 (W0 (c .κs) (c .args)) (m0 (c .κs) (c .args))
           laid = λ c. λ g. (
             (
-              (Row.get 7 (T3 .locals) (m2 c g) .now, Row.get 8 (T3 .locals) (m2 c g) .now, Row.get 9 (T3 .locals) (m2 c g)),
+              (Row.get 6 (T3 .locals) (m2 c g) .now, Row.get 7 (T3 .locals) (m2 c g) .now, Row.get 8 (T3 .locals) (m2 c g)),
               refl {a = m2 c g},
               loop-holds record {
                 before = c;
@@ -1963,7 +1953,7 @@ module _ (claims· : Claims) where
                         { out = vs .0; seen = vs .1; p = vs .2; inv = inv };
                   };
                   loop-test = record {
-                    taken = Tests.ltb-true (Row.get 9 (T3 .locals) (m3 record {
+                    taken = Tests.ltb-true (Row.get 8 (T3 .locals) (m3 record {
                       before = c;
                       slice-known = record {
                         given
@@ -1977,7 +1967,7 @@ module _ (claims· : Claims) where
                       before = record { before = record { before = c; slice-known = record { given = g } }; loop = record { out = vs .0; seen = vs .1; p = vs .2; inv = inv } };
                       loop-test =
                           record {
-                            left = Tests.ltb-false (Row.get 9 (T3 .locals) (m3 record { before = c; slice-known = record { given = g } } (vs .0) (vs .1) (vs .2))) (Row.get 4 (T3 .locals) (m3
+                            left = Tests.ltb-false (Row.get 8 (T3 .locals) (m3 record { before = c; slice-known = record { given = g } } (vs .0) (vs .1) (vs .2))) (Row.get 4 (T3 .locals) (m3
                                 record { before = c; slice-known = record { given = g } } (vs .0) (vs .1) (vs .2))) left;
                           };
                     },
@@ -1995,10 +1985,10 @@ module _ (claims· : Claims) where
                 ws = a .1 .0;
                 slots = a .1 .1 .0;
                 n = a .1 .1 .1 .0;
-                mrs = a .1 .1 .1 .1 .0;
-                mrsic = a .1 .1 .1 .1 .1 .0;
-                out = a .1 .1 .1 .1 .1 .1 .0;
-                seen = a .1 .1 .1 .1 .1 .1 .1 .0;
+                ranking = a .1 .1 .1 .1 .0;
+                out = a .1 .1 .1 .1 .1
+                    .0;
+                seen = a .1 .1 .1 .1 .1 .1 .0;
               };
               good = good;
               fits = record { n = record { fits = good .1 .1 .1 .0 .1 } };

@@ -2,6 +2,8 @@
 use Prim.Native.Nat
 use Rattle.index.proofs.Cache
 use Rattle.index.proofs.Cache.Laws as Cache′
+use Rattle.infos.proofs.Ranking
+use Rattle.infos.proofs.Ranking.Laws as Ranking′
 use Rattle.sampleinfo.proofs.NotAliveGenerationCounts
 use Rattle.sampleinfo.proofs.NotAliveGenerationCounts.Laws as NotAliveGenerationCounts′
 use Rattle.sampleinfo.proofs.Short as L
@@ -215,19 +217,25 @@ abbrev r35 : Row.Row
 r35 = Rows'.any-gone NotAliveGenerationCounts′.mir
 
 abbrev r36 : Row.Row
-r36 = Rows'.whole (Declared.row Cache.the-type)
+r36 = Rows'.whole (Declared.row Ranking.the-type)
 
 abbrev r37 : Row.Row
-r37 = Rows'.sc-owed (Array'.Array L.u64 32) 10
+r37 = Rows'.whole (Declared.row Cache.the-type)
 
 abbrev r38 : Row.Row
-r38 = Rows'.any-gone Cache′.mir
+r38 = Rows'.sc-owed (Array'.Array L.u64 32) 10
 
 abbrev r39 : Row.Row
-r39 = Rows.arrF L.u64 32 0
+r39 = Rows'.any-gone Ranking′.mir
 
 abbrev r40 : Row.Row
-r40 = Rows'.any-gone S.ty
+r40 = Rows'.any-gone Cache′.mir
+
+abbrev r41 : Row.Row
+r41 = Rows.arrF L.u64 32 0
+
+abbrev r42 : Row.Row
+r42 = Rows'.any-gone S.ty
 
 abbrev pub ps : List.List (Kinds.PK 4)
 ps = (L.p Cache.the-type Cache′.the-laws Cache′.the-copy Cache′.the-plain) ∷ Kinds.pMut (Array'.Array L.u64 928) 0 tt ∷ MutSlice.pMutS S.row 1 tt ∷ ShrRef.pShr (Array'.Array L.u64 256) 2 tt ∷
@@ -237,9 +245,9 @@ abbrev pub r : Kinds.RK 4
 r = L.r Cache.the-type Cache′.the-laws Cache′.the-copy Cache′.the-plain
 
 abbrev pub xs : List.List Y.Ty
-xs = Y.tyInt Y.w64 ∷ NotAliveGenerationCounts′.mir ∷ NotAliveGenerationCounts′.mir ∷ y14 ∷ y2 ∷ S.ty ∷ y10 ∷ Y.tyStruct (38 ∷ 91 ∷ 93 ∷ []) (Y.tcons y10 (Y.tcons (Y.tyInt Y.w64) Y.tnil)) ∷
-    y2 ∷ Y.tyUnit ∷ y10 ∷ Y.tyStruct (38 ∷ 91 ∷ 93 ∷ []) (Y.tcons y10 (Y.tcons (Y.tyInt Y.w64) Y.tnil)) ∷ y2 ∷ y7 ∷ Y.tyStruct (38 ∷ 91 ∷ 93 ∷ []) (Y.tcons y7 (Y.tcons (Y.tyInt Y.w64)
-    Y.tnil)) ∷ y4 ∷ y11 ∷ Y.tyStruct (38 ∷ 91 ∷ 93 ∷ []) (Y.tcons y11 (Y.tcons (Y.tyInt Y.w64) Y.tnil)) ∷ y3 ∷ y5 ∷ []
+xs = Y.tyInt Y.w64 ∷ S.ty ∷ Ranking′.mir ∷ y14 ∷ y2 ∷ y10 ∷ Y.tyStruct (38 ∷ 91 ∷ 93 ∷ []) (Y.tcons y10 (Y.tcons (Y.tyInt Y.w64) Y.tnil)) ∷ NotAliveGenerationCounts′.mir ∷ y2 ∷ Y.tyUnit ∷
+    y10 ∷ Y.tyStruct (38 ∷ 91 ∷ 93 ∷ []) (Y.tcons y10 (Y.tcons (Y.tyInt Y.w64) Y.tnil)) ∷ y2 ∷ y7 ∷ Y.tyStruct (38 ∷ 91 ∷ 93 ∷ []) (Y.tcons y7 (Y.tcons (Y.tyInt Y.w64) Y.tnil)) ∷ y4 ∷ y11 ∷
+    Y.tyStruct (38 ∷ 91 ∷ 93 ∷ []) (Y.tcons y11 (Y.tcons (Y.tyInt Y.w64) Y.tnil)) ∷ y3 ∷ y5 ∷ []
 
 abbrev pub m : Nat.ℕ
 m = 10
@@ -256,22 +264,21 @@ ps·1 = ShrSlice.pShrS S.row 0 tt ∷ Num.pNum Y.w64 ∷ []
 abbrev pub r·1 : Kinds.RK 1
 r·1 = S.r
 
-abbrev pub ps·2 : List.List (Kinds.PK 0)
-ps·2 = S.p ∷ []
+abbrev pub ps·2 : List.List (Kinds.PK 2)
+ps·2 = ShrRef.pShr (Array'.Array L.u64 928) 0 tt ∷ ShrRef.pShr (Array'.Array L.u64 256) 1 tt ∷ Num.pNum Y.w64 ∷ []
 
-abbrev pub r·2 : Kinds.RK 0
+abbrev pub r·2 : Kinds.RK 2
 r·2 = L.r NotAliveGenerationCounts.the-type NotAliveGenerationCounts′.the-laws NotAliveGenerationCounts′.the-copy NotAliveGenerationCounts′.the-plain
 
-abbrev pub ps·3 : List.List (Kinds.PK 2)
-ps·3 = ShrRef.pShr (Array'.Array L.u64 928) 0 tt ∷ ShrRef.pShr (Array'.Array L.u64 256) 1 tt ∷ Num.pNum Y.w64 ∷ []
+abbrev pub ps·3 : List.List (Kinds.PK 0)
+ps·3 = S.p ∷ (L.p NotAliveGenerationCounts.the-type NotAliveGenerationCounts′.the-laws NotAliveGenerationCounts′.the-copy NotAliveGenerationCounts′.the-plain) ∷ []
 
-abbrev pub r·3 : Kinds.RK 2
-r·3 = L.r NotAliveGenerationCounts.the-type NotAliveGenerationCounts′.the-laws NotAliveGenerationCounts′.the-copy NotAliveGenerationCounts′.the-plain
+abbrev pub r·3 : Kinds.RK 0
+r·3 = L.r Ranking.the-type Ranking′.the-laws Ranking′.the-copy Ranking′.the-plain
 
 abbrev pub ps·4 : List.List (Kinds.PK 5)
-ps·4 = ShrSlice.pShrS S.row 0 tt ∷ ShrRef.pShr (Array'.Array L.u64 928) 1 tt ∷ ShrRef.pShr (Array'.Array L.u64 256) 2 tt ∷ Num.pNum Y.w64 ∷ (L.p NotAliveGenerationCounts.the-type
-    NotAliveGenerationCounts′.the-laws NotAliveGenerationCounts′.the-copy NotAliveGenerationCounts′.the-plain) ∷ (L.p NotAliveGenerationCounts.the-type NotAliveGenerationCounts′.the-laws NotAliveGenerationCounts′.the-copy NotAliveGenerationCounts′.the-plain) ∷ MutSlice.pMutS L.u64 3 tt ∷ Kinds.pMut
-    (Array'.Array L.u64 32) 4 tt ∷ []
+ps·4 = ShrSlice.pShrS S.row 0 tt ∷ ShrRef.pShr (Array'.Array L.u64 928) 1 tt ∷ ShrRef.pShr (Array'.Array L.u64 256) 2 tt ∷ Num.pNum Y.w64 ∷ (L.p Ranking.the-type Ranking′.the-laws
+    Ranking′.the-copy Ranking′.the-plain) ∷ MutSlice.pMutS L.u64 3 tt ∷ Kinds.pMut (Array'.Array L.u64 32) 4 tt ∷ []
 
 abbrev pub r·4 : Kinds.RK 5
 r·4 = Unit'.rUnit
@@ -301,22 +308,22 @@ abbrev b1 : Y.Body
 b1 = Y.call "lookup::latest_slot" (Y.copy (Y.place 1 []) ∷ Y.copy (Y.place 12 []) ∷ []) (Y.place 8 [])
 
 abbrev b2 : Y.Body
-b2 = Y.assign (Y.place 14 []) (Y.addrOf (Y.place 3 (Y.field 0 ∷ Y.deref S.ty ∷ [])))
+b2 = Y.assign (Y.place 13 []) (Y.addrOf (Y.place 3 (Y.field 0 ∷ Y.deref S.ty ∷ [])))
 
 abbrev b3 : Y.Body
-b3 = Y.assign (Y.place 15 []) (Y.aggregate (Y.copy (Y.place 14 []) ∷ Y.copy (Y.place 3 (Y.field 1 ∷ [])) ∷ []))
+b3 = Y.assign (Y.place 14 []) (Y.aggregate (Y.copy (Y.place 13 []) ∷ Y.copy (Y.place 3 (Y.field 1 ∷ [])) ∷ []))
 
 abbrev b4 : Y.Body
-b4 = Y.call "samples::peek" (Y.copy (Y.place 15 []) ∷ Y.copy (Y.place 8 []) ∷ []) (Y.place 13 [])
+b4 = Y.call "samples::peek" (Y.copy (Y.place 14 []) ∷ Y.copy (Y.place 8 []) ∷ []) (Y.place 9 [])
 
 abbrev b5 : Y.Body
-b5 = Y.call "datasample_access::counts_of" (Y.copy (Y.place 13 []) ∷ []) (Y.place 9 [])
+b5 = Y.assign (Y.place 16 []) (Y.addrOf (Y.place 2 (Y.deref y12 ∷ [])))
 
 abbrev b6 : Y.Body
-b6 = Y.assign (Y.place 16 []) (Y.addrOf (Y.place 2 (Y.deref y12 ∷ [])))
+b6 = Y.call "access::last_counts" (Y.copy (Y.place 16 []) ∷ Y.copy (Y.place 4 []) ∷ Y.copy (Y.place 5 []) ∷ []) (Y.place 15 [])
 
 abbrev b7 : Y.Body
-b7 = Y.call "access::last_counts" (Y.copy (Y.place 16 []) ∷ Y.copy (Y.place 4 []) ∷ Y.copy (Y.place 5 []) ∷ []) (Y.place 10 [])
+b7 = Y.call "datasample_access::ranking_of" (Y.copy (Y.place 9 []) ∷ Y.copy (Y.place 15 []) ∷ []) (Y.place 10 [])
 
 abbrev b8 : Y.Body
 b8 = Y.assign (Y.place 11 []) (Y.repeat (Y.int Y.w64 0) 32)
@@ -340,8 +347,8 @@ abbrev b14 : Y.Body
 b14 = Y.assign (Y.place 23 []) (Y.addrOf (Y.place 11 []))
 
 abbrev b15 : Y.Body
-b15 = Y.call "datasample_access::collect" (Y.copy (Y.place 19 []) ∷ Y.copy (Y.place 20 []) ∷ Y.copy (Y.place 4 []) ∷ Y.copy (Y.place 5 []) ∷ Y.copy (Y.place 9 []) ∷ Y.copy (Y.place 10 []) ∷
-    Y.copy (Y.place 22 []) ∷ Y.copy (Y.place 23 []) ∷ []) (Y.place 17 [])
+b15 = Y.call "datasample_access::collect" (Y.copy (Y.place 19 []) ∷ Y.copy (Y.place 20 []) ∷ Y.copy (Y.place 4 []) ∷ Y.copy (Y.place 5 []) ∷ Y.copy (Y.place 10 []) ∷ Y.copy (Y.place 22 [])
+    ∷ Y.copy (Y.place 23 []) ∷ []) (Y.place 17 [])
 
 abbrev b16 : Y.Body
 b16 = Y.assign (Y.place 24 []) (Y.addrOf (Y.place 3 (Y.field 0 ∷ Y.deref S.ty ∷ [])))
@@ -435,217 +442,217 @@ abbrev pub body : Y.Body
 body = b44
 
 abbrev pub Claims : Type 1
-Claims = Kinds.In 1 ps·0 × Kinds.Out 1 ps·0 r·0 × Kinds.In 1 ps·1 × Kinds.Out 1 ps·1 r·1 × Kinds.In 0 ps·2 × Kinds.Out 0 ps·2 r·2 × Kinds.In 2 ps·3 × Kinds.Out 2 ps·3 r·3 × Kinds.In 5 ps·4
+Claims = Kinds.In 1 ps·0 × Kinds.Out 1 ps·0 r·0 × Kinds.In 1 ps·1 × Kinds.Out 1 ps·1 r·1 × Kinds.In 2 ps·2 × Kinds.Out 2 ps·2 r·2 × Kinds.In 0 ps·3 × Kinds.Out 0 ps·3 r·3 × Kinds.In 5 ps·4
     × Kinds.Out 5 ps·4 r·4 × Kinds.In 2 ps·5 × Kinds.Out 2 ps·5 r·5 × Kinds.In 3 ps·6 × Kinds.Out 3 ps·6 r·6
 
 abbrev pub t0 : List.List Row.Entry
-t0 = (0, r38) ∷ (1, r36) ∷ (2, r4) ∷ (3, r25) ∷ (4, r5) ∷ (5, L.h64) ∷ (6, L.hbool) ∷ (7, r19) ∷ (8, L.g64) ∷ (9, r35) ∷ (10, r35) ∷ (11, r34) ∷ (12, r15) ∷ (13, r40) ∷ (14, r32) ∷ (
+t0 = (0, r40) ∷ (1, r37) ∷ (2, r4) ∷ (3, r25) ∷ (4, r5) ∷ (5, L.h64) ∷ (6, L.hbool) ∷ (7, r19) ∷ (8, L.g64) ∷ (9, r42) ∷ (10, r39) ∷ (11, r34) ∷ (12, r15) ∷ (13, r32) ∷ (14, r26) ∷ (
   15,
-  r26,
+  r35,
 ) ∷ []
 
 abbrev pub t1 : List.List Row.Entry
 t1 = (16, r15) ∷ (17, L.gunit) ∷ (18, r32) ∷ (19, r26) ∷ (20, r15) ∷ (21, r24) ∷ (22, r20) ∷ (23, r17) ∷ (24, r33) ∷ (25, r27) ∷ (26, r16) ∷ (27, r18) ∷ []
 
 abbrev pub t2 : List.List Row.Entry
-t2 = (0, r36) ∷ (1, r38) ∷ (2, r4) ∷ (3, r25) ∷ (4, r5) ∷ (5, L.g64) ∷ (6, L.gbool) ∷ (7, r19) ∷ (8, L.g64) ∷ (9, r35) ∷ (10, r35) ∷ (11, r34) ∷ (12, r15) ∷ (13, r40) ∷ (14, r32) ∷ (
+t2 = (0, r37) ∷ (1, r40) ∷ (2, r4) ∷ (3, r25) ∷ (4, r5) ∷ (5, L.g64) ∷ (6, L.gbool) ∷ (7, r19) ∷ (8, L.g64) ∷ (9, r42) ∷ (10, r39) ∷ (11, r34) ∷ (12, r15) ∷ (13, r32) ∷ (14, r26) ∷ (
   15,
-  r26,
+  r35,
 ) ∷ []
 
 abbrev pub t3 : List.List Row.Entry
-t3 = (0, r38) ∷ (1, r36) ∷ (2, r0) ∷ (3, r25) ∷ (4, r5) ∷ (5, L.h64) ∷ (6, L.hbool) ∷ (7, r19) ∷ (8, L.g64) ∷ (9, r35) ∷ (10, r35) ∷ (11, r34) ∷ (12, r7) ∷ (13, r40) ∷ (14, r32) ∷ (15, r26)
+t3 = (0, r40) ∷ (1, r37) ∷ (2, r0) ∷ (3, r25) ∷ (4, r5) ∷ (5, L.h64) ∷ (6, L.hbool) ∷ (7, r19) ∷ (8, L.g64) ∷ (9, r42) ∷ (10, r39) ∷ (11, r34) ∷ (12, r7) ∷ (13, r32) ∷ (14, r26) ∷ (15, r35)
     ∷ []
 
 abbrev pub t4 : List.List Row.Entry
-t4 = (0, r38) ∷ (1, r36) ∷ (2, r0) ∷ (3, r25) ∷ (4, r5) ∷ (5, L.h64) ∷ (6, L.hbool) ∷ (7, r19) ∷ (8, L.h64) ∷ (9, r35) ∷ (10, r35) ∷ (11, r34) ∷ (12, r7) ∷ (13, r40) ∷ (14, r32) ∷ (15, r26)
+t4 = (0, r40) ∷ (1, r37) ∷ (2, r0) ∷ (3, r25) ∷ (4, r5) ∷ (5, L.h64) ∷ (6, L.hbool) ∷ (7, r19) ∷ (8, L.h64) ∷ (9, r42) ∷ (10, r39) ∷ (11, r34) ∷ (12, r7) ∷ (13, r32) ∷ (14, r26) ∷ (15, r35)
     ∷ []
 
 abbrev pub t5 : List.List Row.Entry
-t5 = (0, r38) ∷ (1, r36) ∷ (2, r0) ∷ (3, r25) ∷ (4, r5) ∷ (5, L.h64) ∷ (6, L.hbool) ∷ (7, r19) ∷ (8, L.h64) ∷ (9, r35) ∷ (10, r35) ∷ (11, r34) ∷ (12, r15) ∷ (13, r40) ∷ (14, r32) ∷ (
+t5 = (0, r40) ∷ (1, r37) ∷ (2, r0) ∷ (3, r25) ∷ (4, r5) ∷ (5, L.h64) ∷ (6, L.hbool) ∷ (7, r19) ∷ (8, L.h64) ∷ (9, r42) ∷ (10, r39) ∷ (11, r34) ∷ (12, r15) ∷ (13, r32) ∷ (14, r26) ∷ (
   15,
-  r26,
+  r35,
 ) ∷ []
 
 abbrev pub t6 : List.List Row.Entry
-t6 = (0, r38) ∷ (1, r36) ∷ (2, r4) ∷ (3, r25) ∷ (4, r5) ∷ (5, L.h64) ∷ (6, L.hbool) ∷ (7, r19) ∷ (8, L.h64) ∷ (9, r35) ∷ (10, r35) ∷ (11, r34) ∷ (12, r15) ∷ (13, r40) ∷ (14, r32) ∷ (
+t6 = (0, r40) ∷ (1, r37) ∷ (2, r4) ∷ (3, r25) ∷ (4, r5) ∷ (5, L.h64) ∷ (6, L.hbool) ∷ (7, r19) ∷ (8, L.h64) ∷ (9, r42) ∷ (10, r39) ∷ (11, r34) ∷ (12, r15) ∷ (13, r32) ∷ (14, r26) ∷ (
   15,
-  r26,
+  r35,
 ) ∷ []
 
 abbrev pub t7 : List.List Row.Entry
-t7 = (0, r38) ∷ (1, r36) ∷ (2, r4) ∷ (3, r13) ∷ (4, r5) ∷ (5, L.h64) ∷ (6, L.hbool) ∷ (7, r19) ∷ (8, L.h64) ∷ (9, r35) ∷ (10, r35) ∷ (11, r34) ∷ (12, r15) ∷ (13, r40) ∷ (14, r28) ∷ (
+t7 = (0, r40) ∷ (1, r37) ∷ (2, r4) ∷ (3, r13) ∷ (4, r5) ∷ (5, L.h64) ∷ (6, L.hbool) ∷ (7, r19) ∷ (8, L.h64) ∷ (9, r42) ∷ (10, r39) ∷ (11, r34) ∷ (12, r15) ∷ (13, r28) ∷ (14, r26) ∷ (
   15,
-  r26,
+  r35,
 ) ∷ []
 
 abbrev pub t8 : List.List Row.Entry
-t8 = (0, r38) ∷ (1, r36) ∷ (2, r4) ∷ (3, r13) ∷ (4, r5) ∷ (5, L.h64) ∷ (6, L.hbool) ∷ (7, r19) ∷ (8, L.h64) ∷ (9, r35) ∷ (10, r35) ∷ (11, r34) ∷ (12, r15) ∷ (13, r40) ∷ (14, r32) ∷ (
+t8 = (0, r40) ∷ (1, r37) ∷ (2, r4) ∷ (3, r13) ∷ (4, r5) ∷ (5, L.h64) ∷ (6, L.hbool) ∷ (7, r19) ∷ (8, L.h64) ∷ (9, r42) ∷ (10, r39) ∷ (11, r34) ∷ (12, r15) ∷ (13, r32) ∷ (14, r29) ∷ (
   15,
-  r29,
+  r35,
 ) ∷ []
 
 abbrev pub t9 : List.List Row.Entry
-t9 = (0, r38) ∷ (1, r36) ∷ (2, r4) ∷ (3, r13) ∷ (4, r5) ∷ (5, L.h64) ∷ (6, L.hbool) ∷ (7, r19) ∷ (8, L.h64) ∷ (9, r35) ∷ (10, r35) ∷ (11, r34) ∷ (12, r15) ∷ (13, S.here) ∷ (14, r32) ∷ (
+t9 = (0, r40) ∷ (1, r37) ∷ (2, r4) ∷ (3, r13) ∷ (4, r5) ∷ (5, L.h64) ∷ (6, L.hbool) ∷ (7, r19) ∷ (8, L.h64) ∷ (9, S.here) ∷ (10, r39) ∷ (11, r34) ∷ (12, r15) ∷ (13, r32) ∷ (14, r29) ∷ (
   15,
-  r29,
+  r35,
 ) ∷ []
 
 abbrev pub t10 : List.List Row.Entry
-t10 = (0, r38) ∷ (1, r36) ∷ (2, r4) ∷ (3, r13) ∷ (4, r5) ∷ (5, L.h64) ∷ (6, L.hbool) ∷ (7, r19) ∷ (8, L.h64) ∷ (9, r35) ∷ (10, r35) ∷ (11, r34) ∷ (12, r15) ∷ (13, S.here) ∷ (14, r32) ∷ (
+t10 = (0, r40) ∷ (1, r37) ∷ (2, r4) ∷ (3, r13) ∷ (4, r5) ∷ (5, L.h64) ∷ (6, L.hbool) ∷ (7, r19) ∷ (8, L.h64) ∷ (9, S.here) ∷ (10, r39) ∷ (11, r34) ∷ (12, r15) ∷ (13, r32) ∷ (14, r26) ∷ (
   15,
-  r26,
+  r35,
 ) ∷ []
 
 abbrev pub t11 : List.List Row.Entry
-t11 = (0, r38) ∷ (1, r36) ∷ (2, r4) ∷ (3, r25) ∷ (4, r5) ∷ (5, L.h64) ∷ (6, L.hbool) ∷ (7, r19) ∷ (8, L.h64) ∷ (9, r35) ∷ (10, r35) ∷ (11, r34) ∷ (12, r15) ∷ (13, S.here) ∷ (14, r32) ∷ (
+t11 = (0, r40) ∷ (1, r37) ∷ (2, r4) ∷ (3, r25) ∷ (4, r5) ∷ (5, L.h64) ∷ (6, L.hbool) ∷ (7, r19) ∷ (8, L.h64) ∷ (9, S.here) ∷ (10, r39) ∷ (11, r34) ∷ (12, r15) ∷ (13, r32) ∷ (14, r26) ∷ (
   15,
-  r26,
+  r35,
 ) ∷ []
 
 abbrev pub t12 : List.List Row.Entry
-t12 = (0, r38) ∷ (1, r36) ∷ (2, r4) ∷ (3, r25) ∷ (4, r5) ∷ (5, L.h64) ∷ (6, L.hbool) ∷ (7, r19) ∷ (8, L.h64) ∷ (9, r21) ∷ (10, r35) ∷ (11, r34) ∷ (12, r15) ∷ (13, S.here) ∷ (14, r32) ∷ (
+t12 = (0, r40) ∷ (1, r37) ∷ (2, r1) ∷ (3, r25) ∷ (4, r5) ∷ (5, L.h64) ∷ (6, L.hbool) ∷ (7, r19) ∷ (8, L.h64) ∷ (9, S.here) ∷ (10, r39) ∷ (11, r34) ∷ (12, r15) ∷ (13, r32) ∷ (14, r26) ∷ (
   15,
-  r26,
+  r35,
 ) ∷ []
 
 abbrev pub t13 : List.List Row.Entry
-t13 = (0, r38) ∷ (1, r36) ∷ (2, r4) ∷ (3, r25) ∷ (4, r5) ∷ (5, L.h64) ∷ (6, L.hbool) ∷ (7, r19) ∷ (8, L.h64) ∷ (9, r21) ∷ (10, r35) ∷ (11, r34) ∷ (12, r15) ∷ (13, r40) ∷ (14, r32) ∷ (
-  15,
-  r26,
-) ∷ []
+t13 = (16, Rows'.sref (Array'.Array L.u64 928) y2 6) ∷ (17, L.gunit) ∷ (18, r32) ∷ (19, r26) ∷ (20, r15) ∷ (21, r24) ∷ (22, r20) ∷ (23, r17) ∷ (24, r33) ∷ (25, r27) ∷ (26, r16) ∷ (27, r18)
+    ∷ []
 
 abbrev pub t14 : List.List Row.Entry
-t14 = (0, r38) ∷ (1, r36) ∷ (2, r1) ∷ (3, r25) ∷ (4, r5) ∷ (5, L.h64) ∷ (6, L.hbool) ∷ (7, r19) ∷ (8, L.h64) ∷ (9, r21) ∷ (10, r35) ∷ (11, r34) ∷ (12, r15) ∷ (13, r40) ∷ (14, r32) ∷ (
+t14 = (0, r40) ∷ (1, r37) ∷ (2, r1) ∷ (3, r25) ∷ (4, r5) ∷ (5, L.h64) ∷ (6, L.hbool) ∷ (7, r19) ∷ (8, L.h64) ∷ (9, S.here) ∷ (10, r39) ∷ (11, r34) ∷ (12, r15) ∷ (13, r32) ∷ (14, r26) ∷ (
   15,
-  r26,
+  r21,
 ) ∷ []
 
 abbrev pub t15 : List.List Row.Entry
-t15 = (16, Rows'.sref (Array'.Array L.u64 928) y2 6) ∷ (17, L.gunit) ∷ (18, r32) ∷ (19, r26) ∷ (20, r15) ∷ (21, r24) ∷ (22, r20) ∷ (23, r17) ∷ (24, r33) ∷ (25, r27) ∷ (26, r16) ∷ (27, r18)
-    ∷ []
+t15 = (0, r40) ∷ (1, r37) ∷ (2, r4) ∷ (3, r25) ∷ (4, r5) ∷ (5, L.h64) ∷ (6, L.hbool) ∷ (7, r19) ∷ (8, L.h64) ∷ (9, S.here) ∷ (10, r39) ∷ (11, r34) ∷ (12, r15) ∷ (13, r32) ∷ (14, r26) ∷ (
+  15,
+  r21,
+) ∷ []
 
 abbrev pub t16 : List.List Row.Entry
-t16 = (0, r38) ∷ (1, r36) ∷ (2, r1) ∷ (3, r25) ∷ (4, r5) ∷ (5, L.h64) ∷ (6, L.hbool) ∷ (7, r19) ∷ (8, L.h64) ∷ (9, r21) ∷ (10, r21) ∷ (11, r34) ∷ (12, r15) ∷ (13, r40) ∷ (14, r32) ∷ (
+t16 = (0, r40) ∷ (1, r37) ∷ (2, r4) ∷ (3, r25) ∷ (4, r5) ∷ (5, L.h64) ∷ (6, L.hbool) ∷ (7, r19) ∷ (8, L.h64) ∷ (9, S.here) ∷ (10, r36) ∷ (11, r34) ∷ (12, r15) ∷ (13, r32) ∷ (14, r26) ∷ (
   15,
-  r26,
+  r21,
 ) ∷ []
 
 abbrev pub t17 : List.List Row.Entry
-t17 = (0, r38) ∷ (1, r36) ∷ (2, r4) ∷ (3, r25) ∷ (4, r5) ∷ (5, L.h64) ∷ (6, L.hbool) ∷ (7, r19) ∷ (8, L.h64) ∷ (9, r21) ∷ (10, r21) ∷ (11, r34) ∷ (12, r15) ∷ (13, r40) ∷ (14, r32) ∷ (
+t17 = (0, r40) ∷ (1, r37) ∷ (2, r4) ∷ (3, r25) ∷ (4, r5) ∷ (5, L.h64) ∷ (6, L.hbool) ∷ (7, r19) ∷ (8, L.h64) ∷ (9, r42) ∷ (10, r36) ∷ (11, r34) ∷ (12, r15) ∷ (13, r32) ∷ (14, r26) ∷ (
   15,
-  r26,
+  r21,
 ) ∷ []
 
 abbrev pub t18 : List.List Row.Entry
-t18 = (0, r38) ∷ (1, r36) ∷ (2, r4) ∷ (3, r25) ∷ (4, r5) ∷ (5, L.h64) ∷ (6, L.hbool) ∷ (7, r19) ∷ (8, L.h64) ∷ (9, r21) ∷ (10, r21) ∷ (11, Rows'.whole (Array'.Array L.u64 32)) ∷ (12, r15) ∷
-    (13, r40) ∷ (14, r32) ∷ (15, r26) ∷ []
-
-abbrev pub t19 : List.List Row.Entry
-t19 = (0, r38) ∷ (1, r36) ∷ (2, r4) ∷ (3, r25) ∷ (4, r5) ∷ (5, L.h64) ∷ (6, L.hbool) ∷ (7, r19) ∷ (8, L.h64) ∷ (9, r21) ∷ (10, r21) ∷ (11, r39) ∷ (12, r15) ∷ (13, r40) ∷ (14, r32) ∷ (
+t18 = (0, r40) ∷ (1, r37) ∷ (2, r4) ∷ (3, r25) ∷ (4, r5) ∷ (5, L.h64) ∷ (6, L.hbool) ∷ (7, r19) ∷ (8, L.h64) ∷ (9, r42) ∷ (10, r36) ∷ (11, r34) ∷ (12, r15) ∷ (13, r32) ∷ (14, r26) ∷ (
   15,
-  r26,
+  r35,
 ) ∷ []
 
+abbrev pub t19 : List.List Row.Entry
+t19 = (0, r40) ∷ (1, r37) ∷ (2, r4) ∷ (3, r25) ∷ (4, r5) ∷ (5, L.h64) ∷ (6, L.hbool) ∷ (7, r19) ∷ (8, L.h64) ∷ (9, r42) ∷ (10, r36) ∷ (11, Rows'.whole (Array'.Array L.u64 32)) ∷ (12, r15) ∷
+    (13, r32) ∷ (14, r26) ∷ (15, r35) ∷ []
+
 abbrev pub t20 : List.List Row.Entry
-t20 = (0, r38) ∷ (1, r36) ∷ (2, r4) ∷ (3, r14) ∷ (4, r5) ∷ (5, L.h64) ∷ (6, L.hbool) ∷ (7, r19) ∷ (8, L.h64) ∷ (9, r21) ∷ (10, r21) ∷ (11, r39) ∷ (12, r15) ∷ (13, r40) ∷ (14, r32) ∷ (
+t20 = (0, r40) ∷ (1, r37) ∷ (2, r4) ∷ (3, r25) ∷ (4, r5) ∷ (5, L.h64) ∷ (6, L.hbool) ∷ (7, r19) ∷ (8, L.h64) ∷ (9, r42) ∷ (10, r36) ∷ (11, r41) ∷ (12, r15) ∷ (13, r32) ∷ (14, r26) ∷ (
   15,
-  r26,
+  r35,
 ) ∷ []
 
 abbrev pub t21 : List.List Row.Entry
-t21 = (16, r15) ∷ (17, L.gunit) ∷ (18, Relend.ssptr S.row y10 7) ∷ (19, r26) ∷ (20, r15) ∷ (21, r24) ∷ (22, r20) ∷ (23, r17) ∷ (24, r33) ∷ (25, r27) ∷ (26, r16) ∷ (27, r18) ∷ []
+t21 = (0, r40) ∷ (1, r37) ∷ (2, r4) ∷ (3, r14) ∷ (4, r5) ∷ (5, L.h64) ∷ (6, L.hbool) ∷ (7, r19) ∷ (8, L.h64) ∷ (9, r42) ∷ (10, r36) ∷ (11, r41) ∷ (12, r15) ∷ (13, r32) ∷ (14, r26) ∷ (
+  15,
+  r35,
+) ∷ []
 
 abbrev pub t22 : List.List Row.Entry
-t22 = (16, r15) ∷ (17, L.gunit) ∷ (18, r32) ∷ (19, r30) ∷ (20, r15) ∷ (21, r24) ∷ (22, r20) ∷ (23, r17) ∷ (24, r33) ∷ (25, r27) ∷ (26, r16) ∷ (27, r18) ∷ []
+t22 = (16, r15) ∷ (17, L.gunit) ∷ (18, Relend.ssptr S.row y10 7) ∷ (19, r26) ∷ (20, r15) ∷ (21, r24) ∷ (22, r20) ∷ (23, r17) ∷ (24, r33) ∷ (25, r27) ∷ (26, r16) ∷ (27, r18) ∷ []
 
 abbrev pub t23 : List.List Row.Entry
-t23 = (0, r38) ∷ (1, r36) ∷ (2, r2) ∷ (3, r14) ∷ (4, r5) ∷ (5, L.h64) ∷ (6, L.hbool) ∷ (7, r19) ∷ (8, L.h64) ∷ (9, r21) ∷ (10, r21) ∷ (11, r39) ∷ (12, r15) ∷ (13, r40) ∷ (14, r32) ∷ (
-  15,
-  r26,
-) ∷ []
+t23 = (16, r15) ∷ (17, L.gunit) ∷ (18, r32) ∷ (19, r30) ∷ (20, r15) ∷ (21, r24) ∷ (22, r20) ∷ (23, r17) ∷ (24, r33) ∷ (25, r27) ∷ (26, r16) ∷ (27, r18) ∷ []
 
 abbrev pub t24 : List.List Row.Entry
-t24 = (16, r15) ∷ (17, L.gunit) ∷ (18, r32) ∷ (19, r30) ∷ (20, r8) ∷ (21, r24) ∷ (22, r20) ∷ (23, r17) ∷ (24, r33) ∷ (25, r27) ∷ (26, r16) ∷ (27, r18) ∷ []
+t24 = (0, r40) ∷ (1, r37) ∷ (2, r2) ∷ (3, r14) ∷ (4, r5) ∷ (5, L.h64) ∷ (6, L.hbool) ∷ (7, r19) ∷ (8, L.h64) ∷ (9, r42) ∷ (10, r36) ∷ (11, r41) ∷ (12, r15) ∷ (13, r32) ∷ (14, r26) ∷ (
+  15,
+  r35,
+) ∷ []
 
 abbrev pub t25 : List.List Row.Entry
-t25 = (0, r38) ∷ (1, r36) ∷ (2, r2) ∷ (3, r14) ∷ (4, r5) ∷ (5, L.h64) ∷ (6, L.hbool) ∷ (7, r12) ∷ (8, L.h64) ∷ (9, r21) ∷ (10, r21) ∷ (11, r39) ∷ (12, r15) ∷ (13, r40) ∷ (14, r32) ∷ (
-  15,
-  r26,
-) ∷ []
+t25 = (16, r15) ∷ (17, L.gunit) ∷ (18, r32) ∷ (19, r30) ∷ (20, r8) ∷ (21, r24) ∷ (22, r20) ∷ (23, r17) ∷ (24, r33) ∷ (25, r27) ∷ (26, r16) ∷ (27, r18) ∷ []
 
 abbrev pub t26 : List.List Row.Entry
-t26 = (16, r15) ∷ (17, L.gunit) ∷ (18, r32) ∷ (19, r30) ∷ (20, r8) ∷ (21, Relend.msptr L.u64 y7 9) ∷ (22, r20) ∷ (23, r17) ∷ (24, r33) ∷ (25, r27) ∷ (26, r16) ∷ (27, r18) ∷ []
+t26 = (0, r40) ∷ (1, r37) ∷ (2, r2) ∷ (3, r14) ∷ (4, r5) ∷ (5, L.h64) ∷ (6, L.hbool) ∷ (7, r12) ∷ (8, L.h64) ∷ (9, r42) ∷ (10, r36) ∷ (11, r41) ∷ (12, r15) ∷ (13, r32) ∷ (14, r26) ∷ (
+  15,
+  r35,
+) ∷ []
 
 abbrev pub t27 : List.List Row.Entry
-t27 = (16, r15) ∷ (17, L.gunit) ∷ (18, r32) ∷ (19, r30) ∷ (20, r8) ∷ (21, r24) ∷ (22, r22) ∷ (23, r17) ∷ (24, r33) ∷ (25, r27) ∷ (26, r16) ∷ (27, r18) ∷ []
+t27 = (16, r15) ∷ (17, L.gunit) ∷ (18, r32) ∷ (19, r30) ∷ (20, r8) ∷ (21, Relend.msptr L.u64 y7 9) ∷ (22, r20) ∷ (23, r17) ∷ (24, r33) ∷ (25, r27) ∷ (26, r16) ∷ (27, r18) ∷ []
 
 abbrev pub t28 : List.List Row.Entry
-t28 = (0, r38) ∷ (1, r36) ∷ (2, r2) ∷ (3, r14) ∷ (4, r5) ∷ (5, L.h64) ∷ (6, L.hbool) ∷ (7, r12) ∷ (8, L.h64) ∷ (9, r21) ∷ (10, r21) ∷ (11, r37) ∷ (12, r15) ∷ (13, r40) ∷ (14, r32) ∷ (
-  15,
-  r26,
-) ∷ []
+t28 = (16, r15) ∷ (17, L.gunit) ∷ (18, r32) ∷ (19, r30) ∷ (20, r8) ∷ (21, r24) ∷ (22, r22) ∷ (23, r17) ∷ (24, r33) ∷ (25, r27) ∷ (26, r16) ∷ (27, r18) ∷ []
 
 abbrev pub t29 : List.List Row.Entry
-t29 = (16, r15) ∷ (17, L.gunit) ∷ (18, r32) ∷ (19, r30) ∷ (20, r8) ∷ (21, r24) ∷ (22, r22) ∷ (23, Rows'.mref (Array'.Array L.u64 32) y4 10) ∷ (24, r33) ∷ (25, r27) ∷ (26, r16) ∷ (27, r18) ∷
-    []
-
-abbrev pub t30 : List.List Row.Entry
-t30 = (16, r15) ∷ (17, L.hunit) ∷ (18, r32) ∷ (19, r30) ∷ (20, r8) ∷ (21, r24) ∷ (22, r23) ∷ (23, r11) ∷ (24, r33) ∷ (25, r27) ∷ (26, r16) ∷ (27, r18) ∷ []
-
-abbrev pub t31 : List.List Row.Entry
-t31 = (16, r15) ∷ (17, L.hunit) ∷ (18, r32) ∷ (19, r26) ∷ (20, r8) ∷ (21, r24) ∷ (22, r23) ∷ (23, r11) ∷ (24, r33) ∷ (25, r27) ∷ (26, r16) ∷ (27, r18) ∷ []
-
-abbrev pub t32 : List.List Row.Entry
-t32 = (16, r15) ∷ (17, L.hunit) ∷ (18, r32) ∷ (19, r26) ∷ (20, r15) ∷ (21, r24) ∷ (22, r23) ∷ (23, r11) ∷ (24, r33) ∷ (25, r27) ∷ (26, r16) ∷ (27, r18) ∷ []
-
-abbrev pub t33 : List.List Row.Entry
-t33 = (0, r38) ∷ (1, r36) ∷ (2, r2) ∷ (3, r14) ∷ (4, r5) ∷ (5, L.h64) ∷ (6, L.hbool) ∷ (7, r12) ∷ (8, L.h64) ∷ (9, r35) ∷ (10, r21) ∷ (11, r37) ∷ (12, r15) ∷ (13, r40) ∷ (14, r32) ∷ (
+t29 = (0, r40) ∷ (1, r37) ∷ (2, r2) ∷ (3, r14) ∷ (4, r5) ∷ (5, L.h64) ∷ (6, L.hbool) ∷ (7, r12) ∷ (8, L.h64) ∷ (9, r42) ∷ (10, r36) ∷ (11, r38) ∷ (12, r15) ∷ (13, r32) ∷ (14, r26) ∷ (
   15,
-  r26,
+  r35,
 ) ∷ []
 
+abbrev pub t30 : List.List Row.Entry
+t30 = (16, r15) ∷ (17, L.gunit) ∷ (18, r32) ∷ (19, r30) ∷ (20, r8) ∷ (21, r24) ∷ (22, r22) ∷ (23, Rows'.mref (Array'.Array L.u64 32) y4 10) ∷ (24, r33) ∷ (25, r27) ∷ (26, r16) ∷ (27, r18) ∷
+    []
+
+abbrev pub t31 : List.List Row.Entry
+t31 = (16, r15) ∷ (17, L.hunit) ∷ (18, r32) ∷ (19, r30) ∷ (20, r8) ∷ (21, r24) ∷ (22, r23) ∷ (23, r11) ∷ (24, r33) ∷ (25, r27) ∷ (26, r16) ∷ (27, r18) ∷ []
+
+abbrev pub t32 : List.List Row.Entry
+t32 = (16, r15) ∷ (17, L.hunit) ∷ (18, r32) ∷ (19, r26) ∷ (20, r8) ∷ (21, r24) ∷ (22, r23) ∷ (23, r11) ∷ (24, r33) ∷ (25, r27) ∷ (26, r16) ∷ (27, r18) ∷ []
+
+abbrev pub t33 : List.List Row.Entry
+t33 = (16, r15) ∷ (17, L.hunit) ∷ (18, r32) ∷ (19, r26) ∷ (20, r15) ∷ (21, r24) ∷ (22, r23) ∷ (23, r11) ∷ (24, r33) ∷ (25, r27) ∷ (26, r16) ∷ (27, r18) ∷ []
+
 abbrev pub t34 : List.List Row.Entry
-t34 = (0, r38) ∷ (1, r36) ∷ (2, r2) ∷ (3, r14) ∷ (4, r5) ∷ (5, L.h64) ∷ (6, L.hbool) ∷ (7, r12) ∷ (8, L.h64) ∷ (9, r35) ∷ (10, r35) ∷ (11, r37) ∷ (12, r15) ∷ (13, r40) ∷ (14, r32) ∷ (
+t34 = (0, r40) ∷ (1, r37) ∷ (2, r2) ∷ (3, r14) ∷ (4, r5) ∷ (5, L.h64) ∷ (6, L.hbool) ∷ (7, r12) ∷ (8, L.h64) ∷ (9, r42) ∷ (10, r39) ∷ (11, r38) ∷ (12, r15) ∷ (13, r32) ∷ (14, r26) ∷ (
   15,
-  r26,
+  r35,
 ) ∷ []
 
 abbrev pub t35 : List.List Row.Entry
 t35 = (16, r15) ∷ (17, L.gunit) ∷ (18, r32) ∷ (19, r26) ∷ (20, r15) ∷ (21, r24) ∷ (22, r23) ∷ (23, r11) ∷ (24, r33) ∷ (25, r27) ∷ (26, r16) ∷ (27, r18) ∷ []
 
 abbrev pub t36 : List.List Row.Entry
-t36 = (0, r38) ∷ (1, r36) ∷ (2, r2) ∷ (3, r25) ∷ (4, r5) ∷ (5, L.h64) ∷ (6, L.hbool) ∷ (7, r12) ∷ (8, L.h64) ∷ (9, r35) ∷ (10, r35) ∷ (11, r37) ∷ (12, r15) ∷ (13, r40) ∷ (14, r32) ∷ (
+t36 = (0, r40) ∷ (1, r37) ∷ (2, r2) ∷ (3, r25) ∷ (4, r5) ∷ (5, L.h64) ∷ (6, L.hbool) ∷ (7, r12) ∷ (8, L.h64) ∷ (9, r42) ∷ (10, r39) ∷ (11, r38) ∷ (12, r15) ∷ (13, r32) ∷ (14, r26) ∷ (
   15,
-  r26,
+  r35,
 ) ∷ []
 
 abbrev pub t37 : List.List Row.Entry
-t37 = (0, r38) ∷ (1, r36) ∷ (2, r4) ∷ (3, r25) ∷ (4, r5) ∷ (5, L.h64) ∷ (6, L.hbool) ∷ (7, r12) ∷ (8, L.h64) ∷ (9, r35) ∷ (10, r35) ∷ (11, r37) ∷ (12, r15) ∷ (13, r40) ∷ (14, r32) ∷ (
+t37 = (0, r40) ∷ (1, r37) ∷ (2, r4) ∷ (3, r25) ∷ (4, r5) ∷ (5, L.h64) ∷ (6, L.hbool) ∷ (7, r12) ∷ (8, L.h64) ∷ (9, r42) ∷ (10, r39) ∷ (11, r38) ∷ (12, r15) ∷ (13, r32) ∷ (14, r26) ∷ (
   15,
-  r26,
+  r35,
 ) ∷ []
 
 abbrev pub t38 : List.List Row.Entry
-t38 = (0, r38) ∷ (1, r36) ∷ (2, r4) ∷ (3, r25) ∷ (4, r5) ∷ (5, L.h64) ∷ (6, L.hbool) ∷ (7, r19) ∷ (8, L.h64) ∷ (9, r35) ∷ (10, r35) ∷ (11, r37) ∷ (12, r15) ∷ (13, r40) ∷ (14, r32) ∷ (
+t38 = (0, r40) ∷ (1, r37) ∷ (2, r4) ∷ (3, r25) ∷ (4, r5) ∷ (5, L.h64) ∷ (6, L.hbool) ∷ (7, r19) ∷ (8, L.h64) ∷ (9, r42) ∷ (10, r39) ∷ (11, r38) ∷ (12, r15) ∷ (13, r32) ∷ (14, r26) ∷ (
   15,
-  r26,
+  r35,
 ) ∷ []
 
 abbrev pub t39 : List.List Row.Entry
 t39 = (16, r15) ∷ (17, L.gunit) ∷ (18, r32) ∷ (19, r26) ∷ (20, r15) ∷ (21, r24) ∷ (22, r20) ∷ (23, r11) ∷ (24, r33) ∷ (25, r27) ∷ (26, r16) ∷ (27, r18) ∷ []
 
 abbrev pub t40 : List.List Row.Entry
-t40 = (0, r38) ∷ (1, r36) ∷ (2, r4) ∷ (3, r25) ∷ (4, r5) ∷ (5, L.h64) ∷ (6, L.hbool) ∷ (7, r19) ∷ (8, L.h64) ∷ (9, r35) ∷ (10, r35) ∷ (11, r39) ∷ (12, r15) ∷ (13, r40) ∷ (14, r32) ∷ (
+t40 = (0, r40) ∷ (1, r37) ∷ (2, r4) ∷ (3, r25) ∷ (4, r5) ∷ (5, L.h64) ∷ (6, L.hbool) ∷ (7, r19) ∷ (8, L.h64) ∷ (9, r42) ∷ (10, r39) ∷ (11, r41) ∷ (12, r15) ∷ (13, r32) ∷ (14, r26) ∷ (
   15,
-  r26,
+  r35,
 ) ∷ []
 
 abbrev pub t41 : List.List Row.Entry
-t41 = (0, r38) ∷ (1, r36) ∷ (2, r4) ∷ (3, Relend.mslice-owed S.row y9 1 11 Row.off) ∷ (4, r5) ∷ (5, L.h64) ∷ (6, L.hbool) ∷ (7, r19) ∷ (8, L.h64) ∷ (9, r35) ∷ (10, r35) ∷ (11, r39) ∷ (
+t41 = (0, r40) ∷ (1, r37) ∷ (2, r4) ∷ (3, Relend.mslice-owed S.row y9 1 11 Row.off) ∷ (4, r5) ∷ (5, L.h64) ∷ (6, L.hbool) ∷ (7, r19) ∷ (8, L.h64) ∷ (9, r42) ∷ (10, r39) ∷ (11, r41) ∷ (
   12,
   r15,
-) ∷ (13, r40) ∷ (14, r32) ∷ (15, r26) ∷ []
+) ∷ (13, r32) ∷ (14, r26) ∷ (15, r35) ∷ []
 
 abbrev pub t42 : List.List Row.Entry
 t42 = (16, r15) ∷ (17, L.gunit) ∷ (18, r32) ∷ (19, r26) ∷ (20, r15) ∷ (21, r24) ∷ (22, r20) ∷ (23, r17) ∷ (24, Relend.msptr S.row y11 11) ∷ (25, r27) ∷ (26, r16) ∷ (27, r18) ∷ []
@@ -660,30 +667,30 @@ abbrev pub t45 : List.List Row.Entry
 t45 = (16, r15) ∷ (17, L.gunit) ∷ (18, r32) ∷ (19, r26) ∷ (20, r15) ∷ (21, r24) ∷ (22, r20) ∷ (23, r17) ∷ (24, r33) ∷ (25, r31) ∷ (26, r16) ∷ (27, r18) ∷ []
 
 abbrev pub t46 : List.List Row.Entry
-t46 = (0, r38) ∷ (1, r36) ∷ (2, r3) ∷ (3, r25) ∷ (4, r5) ∷ (5, L.h64) ∷ (6, L.hbool) ∷ (7, r19) ∷ (8, L.h64) ∷ (9, r35) ∷ (10, r35) ∷ (11, r39) ∷ (12, r15) ∷ (13, r40) ∷ (14, r32) ∷ (
+t46 = (0, r40) ∷ (1, r37) ∷ (2, r3) ∷ (3, r25) ∷ (4, r5) ∷ (5, L.h64) ∷ (6, L.hbool) ∷ (7, r19) ∷ (8, L.h64) ∷ (9, r42) ∷ (10, r39) ∷ (11, r41) ∷ (12, r15) ∷ (13, r32) ∷ (14, r26) ∷ (
   15,
-  r26,
+  r35,
 ) ∷ []
 
 abbrev pub t47 : List.List Row.Entry
 t47 = (16, r15) ∷ (17, L.gunit) ∷ (18, r32) ∷ (19, r26) ∷ (20, r15) ∷ (21, r24) ∷ (22, r20) ∷ (23, r17) ∷ (24, r33) ∷ (25, r27) ∷ (26, r6) ∷ (27, r18) ∷ []
 
 abbrev pub t48 : List.List Row.Entry
-t48 = (0, r38) ∷ (1, r36) ∷ (2, r3) ∷ (3, r25) ∷ (4, r5) ∷ (5, L.h64) ∷ (6, L.hbool) ∷ (7, r19) ∷ (8, L.h64) ∷ (9, r35) ∷ (10, r35) ∷ (
+t48 = (0, r40) ∷ (1, r37) ∷ (2, r3) ∷ (3, r25) ∷ (4, r5) ∷ (5, L.h64) ∷ (6, L.hbool) ∷ (7, r19) ∷ (8, L.h64) ∷ (9, r42) ∷ (10, r39) ∷ (
   11,
-  Rows'.sc-shr r39 (Array'.Array L.u64 32) (λ x. x)
+  Rows'.sc-shr r41 (Array'.Array L.u64 32) (λ x. x)
       13,
-) ∷ (12, r15) ∷ (13, r40) ∷ (14, r32) ∷ (15, r26) ∷ []
+) ∷ (12, r15) ∷ (13, r32) ∷ (14, r26) ∷ (15, r35) ∷ []
 
 abbrev pub t49 : List.List Row.Entry
 t49 = (16, r15) ∷ (17, L.gunit) ∷ (18, r32) ∷ (19, r26) ∷ (20, r15) ∷ (21, r24) ∷ (22, r20) ∷ (23, r17) ∷ (24, r33) ∷ (25, r27) ∷ (26, r6) ∷ (27, r9) ∷ []
 
 abbrev pub t50 : List.List Row.Entry
-t50 = (0, r36) ∷ (1, r36) ∷ (2, r3) ∷ (3, r25) ∷ (4, r5) ∷ (5, L.h64) ∷ (6, L.hbool) ∷ (7, r19) ∷ (8, L.h64) ∷ (9, r35) ∷ (10, r35) ∷ (
+t50 = (0, r37) ∷ (1, r37) ∷ (2, r3) ∷ (3, r25) ∷ (4, r5) ∷ (5, L.h64) ∷ (6, L.hbool) ∷ (7, r19) ∷ (8, L.h64) ∷ (9, r42) ∷ (10, r39) ∷ (
   11,
-  Rows'.sc-shr r39 (Array'.Array L.u64 32) (λ x. x)
+  Rows'.sc-shr r41 (Array'.Array L.u64 32) (λ x. x)
       13,
-) ∷ (12, r15) ∷ (13, r40) ∷ (14, r32) ∷ (15, r26) ∷ []
+) ∷ (12, r15) ∷ (13, r32) ∷ (14, r26) ∷ (15, r35) ∷ []
 
 abbrev pub t51 : List.List Row.Entry
 t51 = (16, r15) ∷ (17, L.gunit) ∷ (18, r32) ∷ (19, r26) ∷ (20, r15) ∷ (21, r24) ∷ (22, r20) ∷ (23, r17) ∷ (24, r33) ∷ (25, r27) ∷ (26, r10) ∷ (27, r9) ∷ []
@@ -692,42 +699,42 @@ abbrev pub t52 : List.List Row.Entry
 t52 = (16, r15) ∷ (17, L.gunit) ∷ (18, r32) ∷ (19, r26) ∷ (20, r15) ∷ (21, r24) ∷ (22, r20) ∷ (23, r17) ∷ (24, r33) ∷ (25, r27) ∷ (26, r10) ∷ (27, r18) ∷ []
 
 abbrev pub t53 : List.List Row.Entry
-t53 = (0, r36) ∷ (1, r38) ∷ (2, r3) ∷ (3, r25) ∷ (4, r5) ∷ (5, L.h64) ∷ (6, L.hbool) ∷ (7, r19) ∷ (8, L.h64) ∷ (9, r35) ∷ (10, r35) ∷ (
+t53 = (0, r37) ∷ (1, r40) ∷ (2, r3) ∷ (3, r25) ∷ (4, r5) ∷ (5, L.h64) ∷ (6, L.hbool) ∷ (7, r19) ∷ (8, L.h64) ∷ (9, r42) ∷ (10, r39) ∷ (
   11,
-  Rows'.sc-shr r39 (Array'.Array L.u64 32) (λ x. x)
+  Rows'.sc-shr r41 (Array'.Array L.u64 32) (λ x. x)
       13,
-) ∷ (12, r15) ∷ (13, r40) ∷ (14, r32) ∷ (15, r26) ∷ []
+) ∷ (12, r15) ∷ (13, r32) ∷ (14, r26) ∷ (15, r35) ∷ []
 
 abbrev pub t54 : List.List Row.Entry
-t54 = (0, r36) ∷ (1, r38) ∷ (2, r3) ∷ (3, r25) ∷ (4, r5) ∷ (5, L.h64) ∷ (6, L.hbool) ∷ (7, r19) ∷ (8, L.g64) ∷ (9, r35) ∷ (10, r35) ∷ (
+t54 = (0, r37) ∷ (1, r40) ∷ (2, r3) ∷ (3, r25) ∷ (4, r5) ∷ (5, L.h64) ∷ (6, L.hbool) ∷ (7, r19) ∷ (8, L.g64) ∷ (9, r42) ∷ (10, r39) ∷ (
   11,
-  Rows'.sc-shr r39 (Array'.Array L.u64 32) (λ x. x)
+  Rows'.sc-shr r41 (Array'.Array L.u64 32) (λ x. x)
       13,
-) ∷ (12, r15) ∷ (13, r40) ∷ (14, r32) ∷ (15, r26) ∷ []
+) ∷ (12, r15) ∷ (13, r32) ∷ (14, r26) ∷ (15, r35) ∷ []
 
 abbrev pub t55 : List.List Row.Entry
-t55 = (0, r36) ∷ (1, r38) ∷ (2, r4) ∷ (3, r25) ∷ (4, r5) ∷ (5, L.h64) ∷ (6, L.hbool) ∷ (7, r19) ∷ (8, L.g64) ∷ (9, r35) ∷ (10, r35) ∷ (
+t55 = (0, r37) ∷ (1, r40) ∷ (2, r4) ∷ (3, r25) ∷ (4, r5) ∷ (5, L.h64) ∷ (6, L.hbool) ∷ (7, r19) ∷ (8, L.g64) ∷ (9, r42) ∷ (10, r39) ∷ (
   11,
-  Rows'.sc-shr r39 (Array'.Array L.u64 32) (λ x. x)
+  Rows'.sc-shr r41 (Array'.Array L.u64 32) (λ x. x)
       13,
-) ∷ (12, r15) ∷ (13, r40) ∷ (14, r32) ∷ (15, r26) ∷ []
+) ∷ (12, r15) ∷ (13, r32) ∷ (14, r26) ∷ (15, r35) ∷ []
 
 abbrev pub t56 : List.List Row.Entry
-t56 = (0, r36) ∷ (1, r38) ∷ (2, r4) ∷ (3, r25) ∷ (4, r5) ∷ (5, L.h64) ∷ (6, L.hbool) ∷ (7, r19) ∷ (8, L.g64) ∷ (9, r35) ∷ (10, r35) ∷ (11, r39) ∷ (12, r15) ∷ (13, r40) ∷ (14, r32) ∷ (
+t56 = (0, r37) ∷ (1, r40) ∷ (2, r4) ∷ (3, r25) ∷ (4, r5) ∷ (5, L.h64) ∷ (6, L.hbool) ∷ (7, r19) ∷ (8, L.g64) ∷ (9, r42) ∷ (10, r39) ∷ (11, r41) ∷ (12, r15) ∷ (13, r32) ∷ (14, r26) ∷ (
   15,
-  r26,
+  r35,
 ) ∷ []
 
 abbrev pub t57 : List.List Row.Entry
-t57 = (0, r36) ∷ (1, r38) ∷ (2, r4) ∷ (3, r25) ∷ (4, r5) ∷ (5, L.h64) ∷ (6, L.hbool) ∷ (7, r19) ∷ (8, L.g64) ∷ (9, r35) ∷ (10, r35) ∷ (11, r34) ∷ (12, r15) ∷ (13, r40) ∷ (14, r32) ∷ (
+t57 = (0, r37) ∷ (1, r40) ∷ (2, r4) ∷ (3, r25) ∷ (4, r5) ∷ (5, L.h64) ∷ (6, L.hbool) ∷ (7, r19) ∷ (8, L.g64) ∷ (9, r42) ∷ (10, r39) ∷ (11, r34) ∷ (12, r15) ∷ (13, r32) ∷ (14, r26) ∷ (
   15,
-  r26,
+  r35,
 ) ∷ []
 
 abbrev pub t58 : List.List Row.Entry
-t58 = (0, r36) ∷ (1, r38) ∷ (2, r4) ∷ (3, r25) ∷ (4, r5) ∷ (5, L.g64) ∷ (6, L.hbool) ∷ (7, r19) ∷ (8, L.g64) ∷ (9, r35) ∷ (10, r35) ∷ (11, r34) ∷ (12, r15) ∷ (13, r40) ∷ (14, r32) ∷ (
+t58 = (0, r37) ∷ (1, r40) ∷ (2, r4) ∷ (3, r25) ∷ (4, r5) ∷ (5, L.g64) ∷ (6, L.hbool) ∷ (7, r19) ∷ (8, L.g64) ∷ (9, r42) ∷ (10, r39) ∷ (11, r34) ∷ (12, r15) ∷ (13, r32) ∷ (14, r26) ∷ (
   15,
-  r26,
+  r35,
 ) ∷ []
 
 abbrev pub T0 : Row.Cx
@@ -766,23 +773,23 @@ T14 = record { locals = List._++_ t10 t1; slots = [] }
 abbrev pub T16 : Row.Cx
 T16 = record { locals = List._++_ t11 t1; slots = [] }
 
-abbrev pub T18 : Row.Cx
-T18 = record { locals = List._++_ t12 t1; slots = [] }
-
 abbrev pub T19 : Row.Cx
-T19 = record { locals = List._++_ t13 t1; slots = [] }
+T19 = record { locals = List._++_ t12 t13; slots = [] }
+
+abbrev pub T20 : Row.Cx
+T20 = record { locals = List._++_ t14 t13; slots = [] }
 
 abbrev pub T21 : Row.Cx
-T21 = record { locals = List._++_ t14 t15; slots = [] }
-
-abbrev pub T22 : Row.Cx
-T22 = record { locals = List._++_ t16 t15; slots = [] }
+T21 = record { locals = List._++_ t14 t1; slots = [] }
 
 abbrev pub T23 : Row.Cx
-T23 = record { locals = List._++_ t16 t1; slots = [] }
+T23 = record { locals = List._++_ t15 t1; slots = [] }
 
 abbrev pub T25 : Row.Cx
-T25 = record { locals = List._++_ t17 t1; slots = [] }
+T25 = record { locals = List._++_ t16 t1; slots = [] }
+
+abbrev pub T26 : Row.Cx
+T26 = record { locals = List._++_ t17 t1; slots = [] }
 
 abbrev pub T27 : Row.Cx
 T27 = record { locals = List._++_ t18 t1; slots = [] }
@@ -790,38 +797,38 @@ T27 = record { locals = List._++_ t18 t1; slots = [] }
 abbrev pub T28 : Row.Cx
 T28 = record { locals = List._++_ t19 t1; slots = [] }
 
-abbrev pub T30 : Row.Cx
-T30 = record { locals = List._++_ t20 t21; slots = [] }
+abbrev pub T29 : Row.Cx
+T29 = record { locals = List._++_ t20 t1; slots = [] }
 
 abbrev pub T31 : Row.Cx
-T31 = record { locals = List._++_ t20 t22; slots = [] }
+T31 = record { locals = List._++_ t21 t22; slots = [] }
 
-abbrev pub T33 : Row.Cx
-T33 = record { locals = List._++_ t23 t24; slots = [] }
+abbrev pub T32 : Row.Cx
+T32 = record { locals = List._++_ t21 t23; slots = [] }
 
-abbrev pub T35 : Row.Cx
-T35 = record { locals = List._++_ t25 t26; slots = [] }
+abbrev pub T34 : Row.Cx
+T34 = record { locals = List._++_ t24 t25; slots = [] }
 
 abbrev pub T36 : Row.Cx
-T36 = record { locals = List._++_ t25 t27; slots = [] }
+T36 = record { locals = List._++_ t26 t27; slots = [] }
 
-abbrev pub T38 : Row.Cx
-T38 = record { locals = List._++_ t28 t29; slots = [] }
+abbrev pub T37 : Row.Cx
+T37 = record { locals = List._++_ t26 t28; slots = [] }
 
 abbrev pub T39 : Row.Cx
-T39 = record { locals = List._++_ t28 t30; slots = [] }
+T39 = record { locals = List._++_ t29 t30; slots = [] }
 
 abbrev pub T40 : Row.Cx
-T40 = record { locals = List._++_ t28 t31; slots = [] }
+T40 = record { locals = List._++_ t29 t31; slots = [] }
 
 abbrev pub T41 : Row.Cx
-T41 = record { locals = List._++_ t28 t32; slots = [] }
+T41 = record { locals = List._++_ t29 t32; slots = [] }
 
 abbrev pub T42 : Row.Cx
-T42 = record { locals = List._++_ t33 t32; slots = [] }
+T42 = record { locals = List._++_ t29 t33; slots = [] }
 
 abbrev pub T43 : Row.Cx
-T43 = record { locals = List._++_ t34 t32; slots = [] }
+T43 = record { locals = List._++_ t34 t33; slots = [] }
 
 abbrev pub T44 : Row.Cx
 T44 = record { locals = List._++_ t34 t35; slots = [] }
@@ -910,31 +917,25 @@ module _ (claims· : Claims) where
   s6 = Reshare.n-back-mref-shr T6 2 0 (Array'.Array L.u64 928) y0 [] λ x. x
 
   abbrev s9 : Typed.Gives T8 T11
-  s9 = Reshare'.k-sl-reshare S.row T8 3 14 1 5 y9 y10 Row.off λ x. x
+  s9 = Reshare'.k-sl-reshare S.row T8 3 13 1 5 y9 y10 Row.off λ x. x
 
   abbrev s10 : Typed.Asks T11 T12
-  s10 = Relend.k-sl-aggregate S.row (Relend.asShr S.row) T11 14 15 5 y10 y10 (λ x. x) (Scalar.oFld 3 (Y.field 1 ∷ []) (Y.tyInt Y.w64) 8 λ v. Shared.lenV (v .0))
+  s10 = Relend.k-sl-aggregate S.row (Relend.asShr S.row) T11 13 14 5 y10 y10 (λ x. x) (Scalar.oFld 3 (Y.field 1 ∷ []) (Y.tyInt Y.w64) 8 λ v. Shared.lenV (v .0))
 
   abbrev s11 : Typed.Both T12 T13
-  s11 = Call.callB ps·1 r·1 (claims· .2) (claims· .3) T12 (record { pos = 15; ty = Y.tyRef Y.erased Y.imm S.named; ref = λ x. x }, (Num.vAt 8 λ x. x, tt)) 13 (5 ∷ []) S.ty
+  s11 = Call.callB ps·1 r·1 (claims· .2) (claims· .3) T12 (record { pos = 14; ty = Y.tyRef Y.erased Y.imm S.named; ref = λ x. x }, (Num.vAt 8 λ x. x, tt)) 9 (5 ∷ []) S.ty
 
   abbrev s12 : Typed.Mo T13 → Typed.Mo T14
-  s12 = Scalar.n-room T13 15 y8
+  s12 = Scalar.n-room T13 14 y8
 
   abbrev s14 : Typed.Mo T14 → Typed.Mo T16
   s14 = Reshare'.n-back-sl-shr S.row T14 3 1 5 y9 Row.off λ x. x
 
-  abbrev s16 : Typed.Both T16 T18
-  s16 = Call.callB ps·2 r·2 (claims· .4) (claims· .5) T16 (record { pos = 13; st = []; d = 0; at = λ x. x }, tt) 9 [] NotAliveGenerationCounts′.mir
+  abbrev s17 : Typed.Gives T16 T19
+  s17 = Reshare.k-mref-reshare T16 2 16 0 6 (Array'.Array L.u64 928) y0 y2 Row.off [] λ x. x
 
-  abbrev s17 : Typed.Mo T18 → Typed.Mo T19
-  s17 = Scalar.n-room T18 13 S.ty
-
-  abbrev s19 : Typed.Gives T19 T21
-  s19 = Reshare.k-mref-reshare T19 2 16 0 6 (Array'.Array L.u64 928) y0 y2 Row.off [] λ x. x
-
-  abbrev s20 : Typed.Both T21 T22
-  s20 = Call.callB ps·3 r·3 (claims· .6) (claims· .7) T21 (
+  abbrev s18 : Typed.Both T19 T20
+  s18 = Call.callB ps·2 r·2 (claims· .4) (claims· .5) T19 (
     record { pos = 16; ty = Y.tyRef Y.erased Y.imm y12; ref = λ x. x },
     (
       record {
@@ -945,40 +946,49 @@ module _ (claims· : Claims) where
       },
       (Num.vAt 5 λ x. x, tt),
     ),
-  ) 10 (6 ∷ 2 ∷ []) NotAliveGenerationCounts′.mir
+  ) 15 (6 ∷ 2 ∷ []) NotAliveGenerationCounts′.mir
 
-  abbrev s21 : Typed.Mo T22 → Typed.Mo T23
-  s21 = Scalar.n-room T22 16 y2
+  abbrev s19 : Typed.Mo T20 → Typed.Mo T21
+  s19 = Scalar.n-room T20 16 y2
 
-  abbrev s23 : Typed.Mo T23 → Typed.Mo T25
-  s23 = Reshare.n-back-mref-shr T23 2 0 (Array'.Array L.u64 928) y0 [] λ x. x
+  abbrev s21 : Typed.Mo T21 → Typed.Mo T23
+  s21 = Reshare.n-back-mref-shr T21 2 0 (Array'.Array L.u64 928) y0 [] λ x. x
 
-  abbrev s25 : Typed.Mo T25 → Typed.Mo T27
-  s25 = Repeat.n-repeat L.u64 32 T25 11 λ m. 0
+  abbrev s23 : Typed.Both T23 T25
+  s23 = Call.callB ps·3 r·3 (claims· .6) (claims· .7) T23 (record { pos = 9; st = []; d = 0; at = λ x. x }, (record { pos = 15; st = []; d = 0; at = λ x. x }, tt)) 10 [] Ranking′.mir
+
+  abbrev s24 : Typed.Mo T25 → Typed.Mo T26
+  s24 = Scalar.n-room T25 9 S.ty
+
+  abbrev s25 : Typed.Mo T26 → Typed.Mo T27
+  s25 = Scalar.n-room T26 15 NotAliveGenerationCounts′.mir
 
   abbrev s26 : Typed.Mo T27 → Typed.Mo T28
-  s26 = AtSlots.n-as-by T27 11 r39 λ x. x
+  s26 = Repeat.n-repeat L.u64 32 T27 11 λ m. 0
 
-  abbrev s28 : Typed.Gives T28 T30
-  s28 = Reshare'.k-sl-reshare S.row T28 3 18 1 7 y9 y10 Row.off λ x. x
+  abbrev s27 : Typed.Mo T28 → Typed.Mo T29
+  s27 = AtSlots.n-as-by T28 11 r41 λ x. x
 
-  abbrev s29 : Typed.Asks T30 T31
-  s29 = Relend.k-sl-aggregate S.row (Relend.asShr S.row) T30 18 19 7 y10 y10 (λ x. x) (Scalar.oFld 3 (Y.field 1 ∷ []) (Y.tyInt Y.w64) 8 λ v. Shared.lenV (v .0))
+  abbrev s29 : Typed.Gives T29 T31
+  s29 = Reshare'.k-sl-reshare S.row T29 3 18 1 7 y9 y10 Row.off λ x. x
 
-  abbrev s31 : Typed.Gives T31 T33
-  s31 = Reshare.k-mref-reshare T31 2 20 0 8 (Array'.Array L.u64 928) y0 y2 Row.off [] λ x. x
+  abbrev s30 : Typed.Asks T31 T32
+  s30 = Relend.k-sl-aggregate S.row (Relend.asShr S.row) T31 18 19 7 y10 y10 (λ x. x) (Scalar.oFld 3 (Y.field 1 ∷ []) (Y.tyInt Y.w64) 8 λ v. Shared.lenV (v .0))
 
-  abbrev s33 : Typed.Gives T33 T35
-  s33 = Relend.k-sl-relend L.u64 T33 7 21 3 9 y6 y7 Row.off λ x. x
+  abbrev s32 : Typed.Gives T32 T34
+  s32 = Reshare.k-mref-reshare T32 2 20 0 8 (Array'.Array L.u64 928) y0 y2 Row.off [] λ x. x
 
-  abbrev s34 : Typed.Asks T35 T36
-  s34 = Relend.k-sl-aggregate L.u64 (Relend.asMut L.u64) T35 21 22 9 y7 y7 (λ x. x) (Scalar.oFld 7 (Y.field 1 ∷ []) (Y.tyInt Y.w64) 8 λ v. Shared.lenV (v .0))
+  abbrev s34 : Typed.Gives T34 T36
+  s34 = Relend.k-sl-relend L.u64 T34 7 21 3 9 y6 y7 Row.off λ x. x
 
-  abbrev s36 : Typed.Gives T36 T38
-  s36 = Local.k-sc-borrow T36 11 23 10 (Array'.Array L.u64 32) y4 λ x. x
+  abbrev s35 : Typed.Asks T36 T37
+  s35 = Relend.k-sl-aggregate L.u64 (Relend.asMut L.u64) T36 21 22 9 y7 y7 (λ x. x) (Scalar.oFld 7 (Y.field 1 ∷ []) (Y.tyInt Y.w64) 8 λ v. Shared.lenV (v .0))
 
-  abbrev s37 : Typed.Both T38 T39
-  s37 = Call.callB ps·4 r·4 (claims· .8) (claims· .9) T38 (
+  abbrev s37 : Typed.Gives T37 T39
+  s37 = Local.k-sc-borrow T37 11 23 10 (Array'.Array L.u64 32) y4 λ x. x
+
+  abbrev s38 : Typed.Both T39 T40
+  s38 = Call.callB ps·4 r·4 (claims· .8) (claims· .9) T39 (
     record { pos = 19; ty = Y.tyRef Y.erased Y.imm S.named; ref = λ x. x },
     (
       record {
@@ -992,21 +1002,15 @@ module _ (claims· : Claims) where
         (
           Num.vAt 5 λ x. x,
           (
-            record { pos = 9; st = []; d = 0; at = λ x. x },
+            record { pos = 10; st = []; d = 0; at = λ x. x },
             (
               record {
-                pos = 10;
-                st = [];
-                d = 0;
-                at = λ x. x;
+                pos = 22;
+                ty =
+                    Y.tyRef Y.erased Y.mut (Y.tyInt Y.w64);
+                ref = λ x. x;
               },
-              (
-                record { pos = 22; ty = Y.tyRef Y.erased Y.mut (Y.tyInt Y.w64); ref = λ x. x },
-                (
-                  record { pos = 23; ty = Y.tyRef Y.erased Y.mut y14; ref = λ x. x },
-                  tt,
-                ),
-              ),
+              (record { pos = 23; ty = Y.tyRef Y.erased Y.mut y14; ref = λ x. x }, tt),
             ),
           ),
         ),
@@ -1014,17 +1018,14 @@ module _ (claims· : Claims) where
     ),
   ) 17 (7 ∷ 8 ∷ 2 ∷ 9 ∷ 10 ∷ []) Y.tyUnit
 
-  abbrev s38 : Typed.Mo T39 → Typed.Mo T40
-  s38 = Scalar.n-room T39 19 y8
-
   abbrev s39 : Typed.Mo T40 → Typed.Mo T41
-  s39 = Scalar.n-room T40 20 y2
+  s39 = Scalar.n-room T40 19 y8
 
   abbrev s40 : Typed.Mo T41 → Typed.Mo T42
-  s40 = Scalar.n-room T41 9 NotAliveGenerationCounts′.mir
+  s40 = Scalar.n-room T41 20 y2
 
   abbrev s41 : Typed.Mo T42 → Typed.Mo T43
-  s41 = Scalar.n-room T42 10 NotAliveGenerationCounts′.mir
+  s41 = Scalar.n-room T42 10 Ranking′.mir
 
   abbrev s42 : Typed.Mo T43 → Typed.Mo T44
   s42 = Scalar.n-room T43 17 Y.tyUnit
@@ -1042,7 +1043,7 @@ module _ (claims· : Claims) where
   s51 = Know.k-sl-known (Referent.fInt Y.w64) T52 7 3 y6 Row.off 0 λ x. x
 
   abbrev s54 : Typed.Asks T53 T56
-  s54 = Local.k-back-sc T53 23 11 10 (Array'.Array L.u64 32) y4 r39 (λ x. x) (λ x. x) λ x. x
+  s54 = Local.k-back-sc T53 23 11 10 (Array'.Array L.u64 32) y4 r41 (λ x. x) (λ x. x) λ x. x
 
   abbrev s57 : Typed.Gives T56 T59
   s57 = Relend.k-sl-relend S.row T56 3 24 1 11 y9 y11 Row.off λ x. x
@@ -1105,7 +1106,7 @@ module _ (claims· : Claims) where
   s73 = Reborrow.k-back-mref T73 26 2 0 (Array'.Array L.u64 928) y0 y3 [] (λ x. x) λ x. x
 
   abbrev s76 : Typed.Mo T75 → Typed.Mo T78
-  s76 = Local.n-back-shr T75 11 13 r39 λ x. x
+  s76 = Local.n-back-shr T75 11 13 r41 λ x. x
 
   abbrev s78 : Typed.Mo T78 → Typed.Mo T80
   s78 = Scalar.n-room T78 11 y14
@@ -1120,10 +1121,10 @@ module _ (claims· : Claims) where
     module _ (M : Type 1) where
       abbrev pub Closed : Type 2
       Closed = (𝓤 : URA.URA M) (H : Wp.Heap 𝓤) (A : Atoms.Atoms 𝓤) (W : Kit.Given 𝓤 H A) (𝓣 : Wp.Tables 𝓤 H) (known0 : Plain.Known 𝓤 H A W 𝓣 1 ps·0 r·0 (claims· .0) (claims· .1)
-          "lookup::latest_slot") (known1 : Plain.Known 𝓤 H A W 𝓣 1 ps·1 r·1 (claims· .2) (claims· .3) "samples::peek") (known2 : Plain.Known 𝓤 H A W 𝓣 0 ps·2 r·2 (claims· .4) (claims· .5)
-          "datasample_access::counts_of") (known3 : Plain.Known 𝓤 H A W 𝓣 2 ps·3 r·3 (claims· .6) (claims· .7) "access::last_counts") (known4 : Plain.Known 𝓤 H A W 𝓣 5 ps·4 r·4 (claims· .8)
-          (claims· .9) "datasample_access::collect") (known5 : Plain.Known 𝓤 H A W 𝓣 2 ps·5 r·5 (claims· .10) (claims· .11) "datasample_access::touch_all") (known6 : Plain.Known 𝓤 H A W 𝓣 3
-          ps·6 r·6 (claims· .12) (claims· .13) "access::settle") → Statement.Triple 𝓤 (Wp.WpFn 𝓤 H (𝓣 .C) (𝓣 .Λ) (Function.fnOf 4 ps r xs m hs body)) (Function.plainOf 𝓤 H A 4 ps r Pre·
+          "lookup::latest_slot") (known1 : Plain.Known 𝓤 H A W 𝓣 1 ps·1 r·1 (claims· .2) (claims· .3) "samples::peek") (known2 : Plain.Known 𝓤 H A W 𝓣 2 ps·2 r·2 (claims· .4) (claims· .5)
+          "access::last_counts") (known3 : Plain.Known 𝓤 H A W 𝓣 0 ps·3 r·3 (claims· .6) (claims· .7) "datasample_access::ranking_of") (known4 : Plain.Known 𝓤 H A W 𝓣 5 ps·4 r·4 (claims·
+          .8) (claims· .9) "datasample_access::collect") (known5 : Plain.Known 𝓤 H A W 𝓣 2 ps·5 r·5 (claims· .10) (claims· .11) "datasample_access::touch_all") (known6 : Plain.Known 𝓤 H A W
+          𝓣 3 ps·6 r·6 (claims· .12) (claims· .13) "access::settle") → Statement.Triple 𝓤 (Wp.WpFn 𝓤 H (𝓣 .C) (𝓣 .Λ) (Function.fnOf 4 ps r xs m hs body)) (Function.plainOf 𝓤 H A 4 ps r Pre·
           Post·)
 
     module _ where
@@ -1257,73 +1258,73 @@ module _ (claims· : Claims) where
       at42 = λ Ψ. Typed.pass T40 T41 s39 (at41 Ψ)
 
       abbrev at43 : Typed.TF T39 O0
-      at43 = λ Ψ. Typed.pass T39 T40 s38 (at42 Ψ)
+      at43 = λ Ψ. Typed.both s38 (at42 Ψ)
 
-      abbrev at44 : Typed.TF T38 O0
-      at44 = λ Ψ. Typed.both s37 (at43 Ψ)
+      abbrev at44 : Typed.TF T37 O0
+      at44 = λ Ψ. Typed.give s37 (at43 Ψ)
 
-      abbrev at45 : Typed.TF T36 O0
-      at45 = λ Ψ. Typed.give s36 (at44 Ψ)
+      abbrev at45 : Typed.TF T37 O0
+      at45 = λ Ψ. at44 Ψ
 
       abbrev at46 : Typed.TF T36 O0
-      at46 = λ Ψ. at45 Ψ
+      at46 = λ Ψ. Typed.ask s35 (at45 Ψ)
 
-      abbrev at47 : Typed.TF T35 O0
-      at47 = λ Ψ. Typed.ask s34 (at46 Ψ)
+      abbrev at47 : Typed.TF T34 O0
+      at47 = λ Ψ. Typed.give s34 (at46 Ψ)
 
-      abbrev at48 : Typed.TF T33 O0
-      at48 = λ Ψ. Typed.give s33 (at47 Ψ)
+      abbrev at48 : Typed.TF T34 O0
+      at48 = λ Ψ. at47 Ψ
 
-      abbrev at49 : Typed.TF T33 O0
-      at49 = λ Ψ. at48 Ψ
+      abbrev at49 : Typed.TF T32 O0
+      at49 = λ Ψ. Typed.give s32 (at48 Ψ)
 
-      abbrev at50 : Typed.TF T31 O0
-      at50 = λ Ψ. Typed.give s31 (at49 Ψ)
+      abbrev at50 : Typed.TF T32 O0
+      at50 = λ Ψ. at49 Ψ
 
       abbrev at51 : Typed.TF T31 O0
-      at51 = λ Ψ. at50 Ψ
+      at51 = λ Ψ. Typed.ask s30 (at50 Ψ)
 
-      abbrev at52 : Typed.TF T30 O0
-      at52 = λ Ψ. Typed.ask s29 (at51 Ψ)
+      abbrev at52 : Typed.TF T29 O0
+      at52 = λ Ψ. Typed.give s29 (at51 Ψ)
 
-      abbrev at53 : Typed.TF T28 O0
-      at53 = λ Ψ. Typed.give s28 (at52 Ψ)
+      abbrev at53 : Typed.TF T29 O0
+      at53 = λ Ψ. at52 Ψ
 
       abbrev at54 : Typed.TF T28 O0
-      at54 = λ Ψ. at53 Ψ
+      at54 = λ Ψ. Typed.pass T28 T29 s27 (at53 Ψ)
 
       abbrev at55 : Typed.TF T27 O0
       at55 = λ Ψ. Typed.pass T27 T28 s26 (at54 Ψ)
 
-      abbrev at56 : Typed.TF T25 O0
-      at56 = λ Ψ. Typed.pass T25 T27 s25 (at55 Ψ)
+      abbrev at56 : Typed.TF T26 O0
+      at56 = λ Ψ. Typed.pass T26 T27 s25 (at55 Ψ)
 
       abbrev at57 : Typed.TF T25 O0
-      at57 = λ Ψ. at56 Ψ
+      at57 = λ Ψ. Typed.pass T25 T26 s24 (at56 Ψ)
 
       abbrev at58 : Typed.TF T23 O0
-      at58 = λ Ψ. Typed.pass T23 T25 s23 (at57 Ψ)
+      at58 = λ Ψ. Typed.both s23 (at57 Ψ)
 
       abbrev at59 : Typed.TF T23 O0
       at59 = λ Ψ. at58 Ψ
 
-      abbrev at60 : Typed.TF T22 O0
-      at60 = λ Ψ. Typed.pass T22 T23 s21 (at59 Ψ)
+      abbrev at60 : Typed.TF T21 O0
+      at60 = λ Ψ. Typed.pass T21 T23 s21 (at59 Ψ)
 
       abbrev at61 : Typed.TF T21 O0
-      at61 = λ Ψ. Typed.both s20 (at60 Ψ)
+      at61 = λ Ψ. at60 Ψ
 
-      abbrev at62 : Typed.TF T19 O0
-      at62 = λ Ψ. Typed.give s19 (at61 Ψ)
+      abbrev at62 : Typed.TF T20 O0
+      at62 = λ Ψ. Typed.pass T20 T21 s19 (at61 Ψ)
 
       abbrev at63 : Typed.TF T19 O0
-      at63 = λ Ψ. at62 Ψ
+      at63 = λ Ψ. Typed.both s18 (at62 Ψ)
 
-      abbrev at64 : Typed.TF T18 O0
-      at64 = λ Ψ. Typed.pass T18 T19 s17 (at63 Ψ)
+      abbrev at64 : Typed.TF T16 O0
+      at64 = λ Ψ. Typed.give s17 (at63 Ψ)
 
       abbrev at65 : Typed.TF T16 O0
-      at65 = λ Ψ. Typed.both s16 (at64 Ψ)
+      at65 = λ Ψ. at64 Ψ
 
       abbrev at66 : Typed.TF T16 O0
       at66 = λ Ψ. at65 Ψ
@@ -1379,7 +1380,7 @@ module _ (claims· : Claims) where
       module _ {M : Type 1} (𝓤 : URA.URA M) (H : Wp.Heap 𝓤) (A : Atoms.Atoms 𝓤) (W : Kit.Given 𝓤 H A) (𝓣 : Wp.Tables 𝓤 H) where
         abbrev Knowns : Type 1
         Knowns = Plain.Known 𝓤 H A W 𝓣 1 ps·0 r·0 (claims· .0) (claims· .1) "lookup::latest_slot" × Plain.Known 𝓤 H A W 𝓣 1 ps·1 r·1 (claims· .2) (claims· .3) "samples::peek" × Plain.Known
-            𝓤 H A W 𝓣 0 ps·2 r·2 (claims· .4) (claims· .5) "datasample_access::counts_of" × Plain.Known 𝓤 H A W 𝓣 2 ps·3 r·3 (claims· .6) (claims· .7) "access::last_counts" × Plain.Known 𝓤
+            𝓤 H A W 𝓣 2 ps·2 r·2 (claims· .4) (claims· .5) "access::last_counts" × Plain.Known 𝓤 H A W 𝓣 0 ps·3 r·3 (claims· .6) (claims· .7) "datasample_access::ranking_of" × Plain.Known 𝓤
             H A W 𝓣 5 ps·4 r·4 (claims· .8) (claims· .9) "datasample_access::collect" × Plain.Known 𝓤 H A W 𝓣 2 ps·5 r·5 (claims· .10) (claims· .11) "datasample_access::touch_all" ×
             Plain.Known 𝓤 H A W 𝓣 3 ps·6 r·6 (claims· .12) (claims· .13) "access::settle"
 
@@ -1433,152 +1434,144 @@ module _ (claims· : Claims) where
             ∷ Row.off ∷ Row.off ∷ Row.off ∷ Row.off ∷ Row.off ∷ Row.off ∷ Row.dead ∷ []
 
         abbrev g3 : List.List Row.Entry
-        g3 = (0, r38) ∷ (1, r36) ∷ (2, Reshare.mref-owedS (Array'.Array L.u64 928) y0 0 4 (Row.lease (κs .0) (qs .0))) ∷ (3, r25) ∷ (4, r5) ∷ (5, L.h64) ∷ (6, L.hbool) ∷ (7, r19) ∷ (
+        g3 = (0, r40) ∷ (1, r37) ∷ (2, Reshare.mref-owedS (Array'.Array L.u64 928) y0 0 4 (Row.lease (κs .0) (qs .0))) ∷ (3, r25) ∷ (4, r5) ∷ (5, L.h64) ∷ (6, L.hbool) ∷ (7, r19) ∷ (
           8,
           L.g64,
-        ) ∷ (9, r35) ∷ (10, r35) ∷ (11, r34) ∷ (12, r7) ∷ (13, r40) ∷ (14, r32) ∷ (15, r26) ∷ []
+        ) ∷ (9, r42) ∷ (10, r39) ∷ (11, r34) ∷ (12, r7) ∷ (13, r32) ∷ (14, r26) ∷ (15, r35) ∷ []
 
         abbrev g4 : List.List Row.Entry
-        g4 = (0, r38) ∷ (1, r36) ∷ (2, Reshare.mref-owedS (Array'.Array L.u64 928) y0 0 4 (Row.lease (κs .0) (qs .0))) ∷ (3, r25) ∷ (4, r5) ∷ (5, L.h64) ∷ (6, L.hbool) ∷ (7, r19) ∷ (
+        g4 = (0, r40) ∷ (1, r37) ∷ (2, Reshare.mref-owedS (Array'.Array L.u64 928) y0 0 4 (Row.lease (κs .0) (qs .0))) ∷ (3, r25) ∷ (4, r5) ∷ (5, L.h64) ∷ (6, L.hbool) ∷ (7, r19) ∷ (
           8,
           L.h64,
-        ) ∷ (9, r35) ∷ (10, r35) ∷ (11, r34) ∷ (12, r7) ∷ (13, r40) ∷ (14, r32) ∷ (15, r26) ∷ []
+        ) ∷ (9, r42) ∷ (10, r39) ∷ (11, r34) ∷ (12, r7) ∷ (13, r32) ∷ (14, r26) ∷ (15, r35) ∷ []
 
         abbrev g5 : List.List Row.Entry
-        g5 = (0, r38) ∷ (1, r36) ∷ (2, Reshare.mref-owedS (Array'.Array L.u64 928) y0 0 4 (Row.lease (κs .0) (qs .0))) ∷ (3, r25) ∷ (4, r5) ∷ (5, L.h64) ∷ (6, L.hbool) ∷ (7, r19) ∷ (
+        g5 = (0, r40) ∷ (1, r37) ∷ (2, Reshare.mref-owedS (Array'.Array L.u64 928) y0 0 4 (Row.lease (κs .0) (qs .0))) ∷ (3, r25) ∷ (4, r5) ∷ (5, L.h64) ∷ (6, L.hbool) ∷ (7, r19) ∷ (
           8,
           L.h64,
-        ) ∷ (9, r35) ∷ (10, r35) ∷ (11, r34) ∷ (12, r15) ∷ (13, r40) ∷ (14, r32) ∷ (15, r26) ∷ []
+        ) ∷ (9, r42) ∷ (10, r39) ∷ (11, r34) ∷ (12, r15) ∷ (13, r32) ∷ (14, r26) ∷ (15, r35) ∷ []
 
         abbrev g7 : List.List Row.Entry
-        g7 = (0, r38) ∷ (1, r36) ∷ (2, r4) ∷ (3, Reshare'.mslice-owedS S.row y9 1 5 (Row.lease (κs .1 .0) (qs .1 .0))) ∷ (4, r5) ∷ (5, L.h64) ∷ (6, L.hbool) ∷ (7, r19) ∷ (8, L.h64) ∷ (
+        g7 = (0, r40) ∷ (1, r37) ∷ (2, r4) ∷ (3, Reshare'.mslice-owedS S.row y9 1 5 (Row.lease (κs .1 .0) (qs .1 .0))) ∷ (4, r5) ∷ (5, L.h64) ∷ (6, L.hbool) ∷ (7, r19) ∷ (8, L.h64) ∷ (
           9,
-          r35,
-        ) ∷ (10, r35) ∷ (11, r34) ∷ (12, r15) ∷ (13, r40) ∷ (14, r28) ∷ (15, r26) ∷ []
+          r42,
+        ) ∷ (10, r39) ∷ (11, r34) ∷ (12, r15) ∷ (13, r28) ∷ (14, r26) ∷ (15, r35) ∷ []
 
         abbrev g8 : List.List Row.Entry
-        g8 = (0, r38) ∷ (1, r36) ∷ (2, r4) ∷ (3, Reshare'.mslice-owedS S.row y9 1 5 (Row.lease (κs .1 .0) (qs .1 .0))) ∷ (4, r5) ∷ (5, L.h64) ∷ (6, L.hbool) ∷ (7, r19) ∷ (8, L.h64) ∷ (
+        g8 = (0, r40) ∷ (1, r37) ∷ (2, r4) ∷ (3, Reshare'.mslice-owedS S.row y9 1 5 (Row.lease (κs .1 .0) (qs .1 .0))) ∷ (4, r5) ∷ (5, L.h64) ∷ (6, L.hbool) ∷ (7, r19) ∷ (8, L.h64) ∷ (
           9,
-          r35,
-        ) ∷ (10, r35) ∷ (11, r34) ∷ (12, r15) ∷ (13, r40) ∷ (14, r32) ∷ (15, r29) ∷ []
+          r42,
+        ) ∷ (10, r39) ∷ (11, r34) ∷ (12, r15) ∷ (13, r32) ∷ (14, r29) ∷ (15, r35) ∷ []
 
         abbrev g9 : List.List Row.Entry
-        g9 = (0, r38) ∷ (1, r36) ∷ (2, r4) ∷ (3, Reshare'.mslice-owedS S.row y9 1 5 (Row.lease (κs .1 .0) (qs .1 .0))) ∷ (4, r5) ∷ (5, L.h64) ∷ (6, L.hbool) ∷ (7, r19) ∷ (8, L.h64) ∷ (
+        g9 = (0, r40) ∷ (1, r37) ∷ (2, r4) ∷ (3, Reshare'.mslice-owedS S.row y9 1 5 (Row.lease (κs .1 .0) (qs .1 .0))) ∷ (4, r5) ∷ (5, L.h64) ∷ (6, L.hbool) ∷ (7, r19) ∷ (8, L.h64) ∷ (
           9,
-          r35,
-        ) ∷ (10, r35) ∷ (11, r34) ∷ (12, r15) ∷ (13, S.here) ∷ (14, r32) ∷ (15, r29) ∷ []
+          S.here,
+        ) ∷ (10, r39) ∷ (11, r34) ∷ (12, r15) ∷ (13, r32) ∷ (14, r29) ∷ (15, r35) ∷ []
 
         abbrev g10 : List.List Row.Entry
-        g10 = (0, r38) ∷ (1, r36) ∷ (2, r4) ∷ (3, Reshare'.mslice-owedS S.row y9 1 5 (Row.lease (κs .1 .0) (qs .1 .0))) ∷ (4, r5) ∷ (5, L.h64) ∷ (6, L.hbool) ∷ (7, r19) ∷ (8, L.h64) ∷ (
+        g10 = (0, r40) ∷ (1, r37) ∷ (2, r4) ∷ (3, Reshare'.mslice-owedS S.row y9 1 5 (Row.lease (κs .1 .0) (qs .1 .0))) ∷ (4, r5) ∷ (5, L.h64) ∷ (6, L.hbool) ∷ (7, r19) ∷ (8, L.h64) ∷ (
           9,
-          r35,
-        ) ∷ (10, r35) ∷ (11, r34) ∷ (12, r15) ∷ (13, S.here) ∷ (14, r32) ∷ (15, r26) ∷ []
+          S.here,
+        ) ∷ (10, r39) ∷ (11, r34) ∷ (12, r15) ∷ (13, r32) ∷ (14, r26) ∷ (15, r35) ∷ []
+
+        abbrev g12 : List.List Row.Entry
+        g12 = (0, r40) ∷ (1, r37) ∷ (2, Reshare.mref-owedS (Array'.Array L.u64 928) y0 0 6 (Row.lease (κs .0) (qs .0))) ∷ (3, r25) ∷ (4, r5) ∷ (5, L.h64) ∷ (6, L.hbool) ∷ (7, r19) ∷ (
+          8,
+          L.h64,
+        ) ∷ (9, S.here) ∷ (10, r39) ∷ (11, r34) ∷ (12, r15) ∷ (13, r32) ∷ (14, r26) ∷ (15, r35) ∷ []
 
         abbrev g14 : List.List Row.Entry
-        g14 = (0, r38) ∷ (1, r36) ∷ (2, Reshare.mref-owedS (Array'.Array L.u64 928) y0 0 6 (Row.lease (κs .0) (qs .0))) ∷ (3, r25) ∷ (4, r5) ∷ (5, L.h64) ∷ (6, L.hbool) ∷ (7, r19) ∷ (
+        g14 = (0, r40) ∷ (1, r37) ∷ (2, Reshare.mref-owedS (Array'.Array L.u64 928) y0 0 6 (Row.lease (κs .0) (qs .0))) ∷ (3, r25) ∷ (4, r5) ∷ (5, L.h64) ∷ (6, L.hbool) ∷ (7, r19) ∷ (
           8,
           L.h64,
-        ) ∷ (9, r21) ∷ (10, r35) ∷ (11, r34) ∷ (12, r15) ∷ (13, r40) ∷ (14, r32) ∷ (15, r26) ∷ []
+        ) ∷ (9, S.here) ∷ (10, r39) ∷ (11, r34) ∷ (12, r15) ∷ (13, r32) ∷ (14, r26) ∷ (15, r21) ∷ []
 
-        abbrev g16 : List.List Row.Entry
-        g16 = (0, r38) ∷ (1, r36) ∷ (2, Reshare.mref-owedS (Array'.Array L.u64 928) y0 0 6 (Row.lease (κs .0) (qs .0))) ∷ (3, r25) ∷ (4, r5) ∷ (5, L.h64) ∷ (6, L.hbool) ∷ (7, r19) ∷ (
-          8,
-          L.h64,
-        ) ∷ (9, r21) ∷ (10, r21) ∷ (11, r34) ∷ (12, r15) ∷ (13, r40) ∷ (14, r32) ∷ (15, r26) ∷ []
-
-        abbrev g20 : List.List Row.Entry
-        g20 = (0, r38) ∷ (1, r36) ∷ (2, r4) ∷ (3, Reshare'.mslice-owedS S.row y9 1 7 (Row.lease (κs .1 .0) (qs .1 .0))) ∷ (4, r5) ∷ (5, L.h64) ∷ (6, L.hbool) ∷ (7, r19) ∷ (8, L.h64) ∷ (
+        abbrev g21 : List.List Row.Entry
+        g21 = (0, r40) ∷ (1, r37) ∷ (2, r4) ∷ (3, Reshare'.mslice-owedS S.row y9 1 7 (Row.lease (κs .1 .0) (qs .1 .0))) ∷ (4, r5) ∷ (5, L.h64) ∷ (6, L.hbool) ∷ (7, r19) ∷ (8, L.h64) ∷ (
           9,
-          r21,
-        ) ∷ (10, r21) ∷ (11, r39) ∷ (12, r15) ∷ (13, r40) ∷ (14, r32) ∷ (15, r26) ∷ []
+          r42,
+        ) ∷ (10, r36) ∷ (11, r41) ∷ (12, r15) ∷ (13, r32) ∷ (14, r26) ∷ (15, r35) ∷ []
 
-        abbrev g23 : List.List Row.Entry
-        g23 = (0, r38) ∷ (1, r36) ∷ (2, Reshare.mref-owedS (Array'.Array L.u64 928) y0 0 8 (Row.lease (κs .0) (qs .0))) ∷ (
+        abbrev g24 : List.List Row.Entry
+        g24 = (0, r40) ∷ (1, r37) ∷ (2, Reshare.mref-owedS (Array'.Array L.u64 928) y0 0 8 (Row.lease (κs .0) (qs .0))) ∷ (
           3,
           Reshare'.mslice-owedS S.row y9 1 7 (Row.lease (κs .1 .0) (qs .1
               .0)),
-        ) ∷ (4, r5) ∷ (5, L.h64) ∷ (6, L.hbool) ∷ (7, r19) ∷ (8, L.h64) ∷ (9, r21) ∷ (10, r21) ∷ (11, r39) ∷ (12, r15) ∷ (13, r40) ∷ (14, r32) ∷ (15, r26) ∷ []
+        ) ∷ (4, r5) ∷ (5, L.h64) ∷ (6, L.hbool) ∷ (7, r19) ∷ (8, L.h64) ∷ (9, r42) ∷ (10, r36) ∷ (11, r41) ∷ (12, r15) ∷ (13, r32) ∷ (14, r26) ∷ (15, r35) ∷ []
 
-        abbrev g25 : List.List Row.Entry
-        g25 = (0, r38) ∷ (1, r36) ∷ (2, Reshare.mref-owedS (Array'.Array L.u64 928) y0 0 8 (Row.lease (κs .0) (qs .0))) ∷ (
+        abbrev g26 : List.List Row.Entry
+        g26 = (0, r40) ∷ (1, r37) ∷ (2, Reshare.mref-owedS (Array'.Array L.u64 928) y0 0 8 (Row.lease (κs .0) (qs .0))) ∷ (
           3,
           Reshare'.mslice-owedS S.row y9 1 7 (Row.lease (κs .1 .0) (qs .1
               .0)),
-        ) ∷ (4, r5) ∷ (5, L.h64) ∷ (6, L.hbool) ∷ (7, Relend.mslice-owed L.u64 y6 3 9 (Row.lease (κs .1 .1 .1 .0) (qs .1 .1 .1 .0))) ∷ (8, L.h64) ∷ (9, r21) ∷ (10, r21) ∷ (11, r39)
-            ∷ (12, r15) ∷ (13, r40) ∷ (14, r32) ∷ (15, r26) ∷ []
+        ) ∷ (4, r5) ∷ (5, L.h64) ∷ (6, L.hbool) ∷ (7, Relend.mslice-owed L.u64 y6 3 9 (Row.lease (κs .1 .1 .1 .0) (qs .1 .1 .1 .0))) ∷ (8, L.h64) ∷ (9, r42) ∷ (10, r36) ∷ (11, r41)
+            ∷ (12, r15) ∷ (13, r32) ∷ (14, r26) ∷ (15, r35) ∷ []
 
-        abbrev g28 : List.List Row.Entry
-        g28 = (0, r38) ∷ (1, r36) ∷ (2, Reshare.mref-owedS (Array'.Array L.u64 928) y0 0 8 (Row.lease (κs .0) (qs .0))) ∷ (
+        abbrev g29 : List.List Row.Entry
+        g29 = (0, r40) ∷ (1, r37) ∷ (2, Reshare.mref-owedS (Array'.Array L.u64 928) y0 0 8 (Row.lease (κs .0) (qs .0))) ∷ (
           3,
           Reshare'.mslice-owedS S.row y9 1 7 (Row.lease (κs .1 .0) (qs .1
               .0)),
-        ) ∷ (4, r5) ∷ (5, L.h64) ∷ (6, L.hbool) ∷ (7, Relend.mslice-owed L.u64 y6 3 9 (Row.lease (κs .1 .1 .1 .0) (qs .1 .1 .1 .0))) ∷ (8, L.h64) ∷ (9, r21) ∷ (10, r21) ∷ (11, r37)
-            ∷ (12, r15) ∷ (13, r40) ∷ (14, r32) ∷ (15, r26) ∷ []
-
-        abbrev g33 : List.List Row.Entry
-        g33 = (0, r38) ∷ (1, r36) ∷ (2, Reshare.mref-owedS (Array'.Array L.u64 928) y0 0 8 (Row.lease (κs .0) (qs .0))) ∷ (
-          3,
-          Reshare'.mslice-owedS S.row y9 1 7 (Row.lease (κs .1 .0) (qs .1
-              .0)),
-        ) ∷ (4, r5) ∷ (5, L.h64) ∷ (6, L.hbool) ∷ (7, Relend.mslice-owed L.u64 y6 3 9 (Row.lease (κs .1 .1 .1 .0) (qs .1 .1 .1 .0))) ∷ (8, L.h64) ∷ (9, r35) ∷ (10, r21) ∷ (11, r37)
-            ∷ (12, r15) ∷ (13, r40) ∷ (14, r32) ∷ (15, r26) ∷ []
+        ) ∷ (4, r5) ∷ (5, L.h64) ∷ (6, L.hbool) ∷ (7, Relend.mslice-owed L.u64 y6 3 9 (Row.lease (κs .1 .1 .1 .0) (qs .1 .1 .1 .0))) ∷ (8, L.h64) ∷ (9, r42) ∷ (10, r36) ∷ (11, r38)
+            ∷ (12, r15) ∷ (13, r32) ∷ (14, r26) ∷ (15, r35) ∷ []
 
         abbrev g34 : List.List Row.Entry
-        g34 = (0, r38) ∷ (1, r36) ∷ (2, Reshare.mref-owedS (Array'.Array L.u64 928) y0 0 8 (Row.lease (κs .0) (qs .0))) ∷ (
+        g34 = (0, r40) ∷ (1, r37) ∷ (2, Reshare.mref-owedS (Array'.Array L.u64 928) y0 0 8 (Row.lease (κs .0) (qs .0))) ∷ (
           3,
           Reshare'.mslice-owedS S.row y9 1 7 (Row.lease (κs .1 .0) (qs .1
               .0)),
-        ) ∷ (4, r5) ∷ (5, L.h64) ∷ (6, L.hbool) ∷ (7, Relend.mslice-owed L.u64 y6 3 9 (Row.lease (κs .1 .1 .1 .0) (qs .1 .1 .1 .0))) ∷ (8, L.h64) ∷ (9, r35) ∷ (10, r35) ∷ (11, r37)
-            ∷ (12, r15) ∷ (13, r40) ∷ (14, r32) ∷ (15, r26) ∷ []
+        ) ∷ (4, r5) ∷ (5, L.h64) ∷ (6, L.hbool) ∷ (7, Relend.mslice-owed L.u64 y6 3 9 (Row.lease (κs .1 .1 .1 .0) (qs .1 .1 .1 .0))) ∷ (8, L.h64) ∷ (9, r42) ∷ (10, r39) ∷ (11, r38)
+            ∷ (12, r15) ∷ (13, r32) ∷ (14, r26) ∷ (15, r35) ∷ []
 
         abbrev g36 : List.List Row.Entry
-        g36 = (0, r38) ∷ (1, r36) ∷ (2, Reshare.mref-owedS (Array'.Array L.u64 928) y0 0 8 (Row.lease (κs .0) (qs .0))) ∷ (3, r25) ∷ (4, r5) ∷ (5, L.h64) ∷ (6, L.hbool) ∷ (
+        g36 = (0, r40) ∷ (1, r37) ∷ (2, Reshare.mref-owedS (Array'.Array L.u64 928) y0 0 8 (Row.lease (κs .0) (qs .0))) ∷ (3, r25) ∷ (4, r5) ∷ (5, L.h64) ∷ (6, L.hbool) ∷ (
           7,
           Relend.mslice-owed L.u64 y6 3 9 (Row.lease (κs .1 .1 .1 .0) (qs .1 .1 .1 .0)),
-        ) ∷ (8, L.h64) ∷ (9, r35) ∷ (10, r35) ∷ (11, r37) ∷ (12, r15) ∷ (13, r40) ∷ (14, r32) ∷ (15, r26) ∷
+        ) ∷ (8, L.h64) ∷ (9, r42) ∷ (10, r39) ∷ (11, r38) ∷ (12, r15) ∷ (13, r32) ∷ (14, r26) ∷ (15, r35) ∷
             []
 
         abbrev g37 : List.List Row.Entry
-        g37 = (0, r38) ∷ (1, r36) ∷ (2, r4) ∷ (3, r25) ∷ (4, r5) ∷ (5, L.h64) ∷ (6, L.hbool) ∷ (7, Relend.mslice-owed L.u64 y6 3 9 (Row.lease (κs .1 .1 .1 .0) (qs .1 .1 .1 .0))) ∷ (
+        g37 = (0, r40) ∷ (1, r37) ∷ (2, r4) ∷ (3, r25) ∷ (4, r5) ∷ (5, L.h64) ∷ (6, L.hbool) ∷ (7, Relend.mslice-owed L.u64 y6 3 9 (Row.lease (κs .1 .1 .1 .0) (qs .1 .1 .1 .0))) ∷ (
           8,
           L.h64,
-        ) ∷ (9, r35) ∷ (10, r35) ∷ (11, r37) ∷ (12, r15) ∷ (13, r40) ∷ (14, r32) ∷ (15, r26) ∷ []
+        ) ∷ (9, r42) ∷ (10, r39) ∷ (11, r38) ∷ (12, r15) ∷ (13, r32) ∷ (14, r26) ∷ (15, r35) ∷ []
 
         abbrev g41 : List.List Row.Entry
-        g41 = (0, r38) ∷ (1, r36) ∷ (2, r4) ∷ (3, Relend.mslice-owed S.row y9 1 11 (Row.lease (κs .1 .0) (qs .1 .0))) ∷ (4, r5) ∷ (5, L.h64) ∷ (6, L.hbool) ∷ (7, r19) ∷ (8, L.h64) ∷ (
+        g41 = (0, r40) ∷ (1, r37) ∷ (2, r4) ∷ (3, Relend.mslice-owed S.row y9 1 11 (Row.lease (κs .1 .0) (qs .1 .0))) ∷ (4, r5) ∷ (5, L.h64) ∷ (6, L.hbool) ∷ (7, r19) ∷ (8, L.h64) ∷ (
           9,
-          r35,
-        ) ∷ (10, r35) ∷ (11, r39) ∷ (12, r15) ∷ (13, r40) ∷ (14, r32) ∷ (15, r26) ∷ []
+          r42,
+        ) ∷ (10, r39) ∷ (11, r41) ∷ (12, r15) ∷ (13, r32) ∷ (14, r26) ∷ (15, r35) ∷ []
 
         abbrev g46 : List.List Row.Entry
-        g46 = (0, r38) ∷ (1, r36) ∷ (2, Rows'.mref-owed (Array'.Array L.u64 928) y0 0 12 (Row.lease (κs .0) (qs .0))) ∷ (3, r25) ∷ (4, r5) ∷ (5, L.h64) ∷ (6, L.hbool) ∷ (7, r19) ∷ (
+        g46 = (0, r40) ∷ (1, r37) ∷ (2, Rows'.mref-owed (Array'.Array L.u64 928) y0 0 12 (Row.lease (κs .0) (qs .0))) ∷ (3, r25) ∷ (4, r5) ∷ (5, L.h64) ∷ (6, L.hbool) ∷ (7, r19) ∷ (
           8,
           L.h64,
-        ) ∷ (9, r35) ∷ (10, r35) ∷ (11, r39) ∷ (12, r15) ∷ (13, r40) ∷ (14, r32) ∷ (15, r26) ∷ []
+        ) ∷ (9, r42) ∷ (10, r39) ∷ (11, r41) ∷ (12, r15) ∷ (13, r32) ∷ (14, r26) ∷ (15, r35) ∷ []
 
         abbrev g48 : List.List Row.Entry
-        g48 = (0, r38) ∷ (1, r36) ∷ (2, Rows'.mref-owed (Array'.Array L.u64 928) y0 0 12 (Row.lease (κs .0) (qs .0))) ∷ (3, r25) ∷ (4, r5) ∷ (5, L.h64) ∷ (6, L.hbool) ∷ (7, r19) ∷ (
+        g48 = (0, r40) ∷ (1, r37) ∷ (2, Rows'.mref-owed (Array'.Array L.u64 928) y0 0 12 (Row.lease (κs .0) (qs .0))) ∷ (3, r25) ∷ (4, r5) ∷ (5, L.h64) ∷ (6, L.hbool) ∷ (7, r19) ∷ (
           8,
           L.h64,
-        ) ∷ (9, r35) ∷ (10, r35) ∷ (11, Rows'.sc-shr r39 (Array'.Array L.u64 32) (λ x. x) 13) ∷ (12, r15) ∷ (13, r40) ∷ (14, r32) ∷ (15, r26) ∷ []
+        ) ∷ (9, r42) ∷ (10, r39) ∷ (11, Rows'.sc-shr r41 (Array'.Array L.u64 32) (λ x. x) 13) ∷ (12, r15) ∷ (13, r32) ∷ (14, r26) ∷ (15, r35) ∷ []
 
         abbrev g50 : List.List Row.Entry
-        g50 = (0, r36) ∷ (1, r36) ∷ (2, Rows'.mref-owed (Array'.Array L.u64 928) y0 0 12 (Row.lease (κs .0) (qs .0))) ∷ (3, r25) ∷ (4, r5) ∷ (5, L.h64) ∷ (6, L.hbool) ∷ (7, r19) ∷ (
+        g50 = (0, r37) ∷ (1, r37) ∷ (2, Rows'.mref-owed (Array'.Array L.u64 928) y0 0 12 (Row.lease (κs .0) (qs .0))) ∷ (3, r25) ∷ (4, r5) ∷ (5, L.h64) ∷ (6, L.hbool) ∷ (7, r19) ∷ (
           8,
           L.h64,
-        ) ∷ (9, r35) ∷ (10, r35) ∷ (11, Rows'.sc-shr r39 (Array'.Array L.u64 32) (λ x. x) 13) ∷ (12, r15) ∷ (13, r40) ∷ (14, r32) ∷ (15, r26) ∷ []
+        ) ∷ (9, r42) ∷ (10, r39) ∷ (11, Rows'.sc-shr r41 (Array'.Array L.u64 32) (λ x. x) 13) ∷ (12, r15) ∷ (13, r32) ∷ (14, r26) ∷ (15, r35) ∷ []
 
         abbrev g53 : List.List Row.Entry
-        g53 = (0, r36) ∷ (1, r38) ∷ (2, Rows'.mref-owed (Array'.Array L.u64 928) y0 0 12 (Row.lease (κs .0) (qs .0))) ∷ (3, r25) ∷ (4, r5) ∷ (5, L.h64) ∷ (6, L.hbool) ∷ (7, r19) ∷ (
+        g53 = (0, r37) ∷ (1, r40) ∷ (2, Rows'.mref-owed (Array'.Array L.u64 928) y0 0 12 (Row.lease (κs .0) (qs .0))) ∷ (3, r25) ∷ (4, r5) ∷ (5, L.h64) ∷ (6, L.hbool) ∷ (7, r19) ∷ (
           8,
           L.h64,
-        ) ∷ (9, r35) ∷ (10, r35) ∷ (11, Rows'.sc-shr r39 (Array'.Array L.u64 32) (λ x. x) 13) ∷ (12, r15) ∷ (13, r40) ∷ (14, r32) ∷ (15, r26) ∷ []
+        ) ∷ (9, r42) ∷ (10, r39) ∷ (11, Rows'.sc-shr r41 (Array'.Array L.u64 32) (λ x. x) 13) ∷ (12, r15) ∷ (13, r32) ∷ (14, r26) ∷ (15, r35) ∷ []
 
         abbrev g54 : List.List Row.Entry
-        g54 = (0, r36) ∷ (1, r38) ∷ (2, Rows'.mref-owed (Array'.Array L.u64 928) y0 0 12 (Row.lease (κs .0) (qs .0))) ∷ (3, r25) ∷ (4, r5) ∷ (5, L.h64) ∷ (6, L.hbool) ∷ (7, r19) ∷ (
+        g54 = (0, r37) ∷ (1, r40) ∷ (2, Rows'.mref-owed (Array'.Array L.u64 928) y0 0 12 (Row.lease (κs .0) (qs .0))) ∷ (3, r25) ∷ (4, r5) ∷ (5, L.h64) ∷ (6, L.hbool) ∷ (7, r19) ∷ (
           8,
           L.g64,
-        ) ∷ (9, r35) ∷ (10, r35) ∷ (11, Rows'.sc-shr r39 (Array'.Array L.u64 32) (λ x. x) 13) ∷ (12, r15) ∷ (13, r40) ∷ (14, r32) ∷ (15, r26) ∷ []
+        ) ∷ (9, r42) ∷ (10, r39) ∷ (11, Rows'.sc-shr r41 (Array'.Array L.u64 32) (λ x. x) 13) ∷ (12, r15) ∷ (13, r32) ∷ (14, r26) ∷ (15, r35) ∷ []
 
         abbrev G0 : Row.Cx
         G0 = record { locals = List._++_ t0 t1; slots = z0 }
@@ -1659,40 +1652,40 @@ module _ (claims· : Claims) where
         G17 = record { locals = List._++_ t11 t1; slots = z0 }
 
         abbrev G18 : Row.Cx
-        G18 = record { locals = List._++_ t12 t1; slots = z0 }
-
-        abbrev G19 : Row.Cx
-        G19 = record { locals = List._++_ t13 t1; slots = z0 }
-
-        abbrev G20 : Row.Cx
-        G20 = record {
-          locals = List._++_ t13 t1;
+        G18 = record {
+          locals = List._++_ t11 t1;
           slots = Row.lease (κs .0) (qs .0) ∷ Row.lease (κs .1 .0) (qs .1 .0) ∷ Row.lease (κs .1 .1 .0) (qs .1 .1 .0) ∷ Row.lease (κs .1 .1 .1 .0)
               (qs .1 .1 .1 .0) ∷ Row.off ∷ Row.off ∷ Row.alive ∷ Row.off ∷ Row.off ∷ Row.off ∷ Row.off ∷ Row.off ∷ Row.off ∷ Row.off ∷ [];
         }
 
+        abbrev G19 : Row.Cx
+        G19 = record { locals = List._++_ g12 t13; slots = z3 }
+
+        abbrev G20 : Row.Cx
+        G20 = record { locals = List._++_ g14 t13; slots = z3 }
+
         abbrev G21 : Row.Cx
-        G21 = record { locals = List._++_ g14 t15; slots = z3 }
+        G21 = record { locals = List._++_ g14 t1; slots = z3 }
 
         abbrev G22 : Row.Cx
-        G22 = record { locals = List._++_ g16 t15; slots = z3 }
-
-        abbrev G23 : Row.Cx
-        G23 = record { locals = List._++_ g16 t1; slots = z3 }
-
-        abbrev G24 : Row.Cx
-        G24 = record {
-          locals = List._++_ g16 t1;
+        G22 = record {
+          locals = List._++_ g14 t1;
           slots = Row.off ∷ Row.lease (κs .1 .0) (qs .1 .0) ∷ Row.lease (κs .1 .1 .0) (qs .1 .1 .0) ∷ Row.lease (κs .1 .1 .1 .0) (qs .1 .1 .1 .0) ∷
               Row.off ∷ Row.off ∷ Row.dead ∷ Row.off ∷ Row.off ∷ Row.off ∷ Row.off ∷ Row.off ∷ Row.off ∷ Row.off ∷ [];
         }
 
-        abbrev G25 : Row.Cx
-        G25 = record {
-          locals = List._++_ t17 t1;
+        abbrev G23 : Row.Cx
+        G23 = record {
+          locals = List._++_ t15 t1;
           slots = Row.lease (κs .0) (qs .0) ∷ Row.lease (κs .1 .0) (qs .1 .0) ∷ Row.lease (κs .1 .1 .0) (qs .1 .1 .0) ∷ Row.lease (κs .1 .1 .1 .0)
               (qs .1 .1 .1 .0) ∷ Row.off ∷ Row.off ∷ Row.dead ∷ Row.off ∷ Row.off ∷ Row.off ∷ Row.off ∷ Row.off ∷ Row.off ∷ Row.off ∷ [];
         }
+
+        abbrev G24 : Row.Cx
+        G24 = record { locals = List._++_ t15 t1; slots = z0 }
+
+        abbrev G25 : Row.Cx
+        G25 = record { locals = List._++_ t16 t1; slots = z0 }
 
         abbrev G26 : Row.Cx
         G26 = record { locals = List._++_ t17 t1; slots = z0 }
@@ -1704,65 +1697,65 @@ module _ (claims· : Claims) where
         G28 = record { locals = List._++_ t19 t1; slots = z0 }
 
         abbrev G29 : Row.Cx
-        G29 = record {
-          locals = List._++_ t19 t1;
+        G29 = record { locals = List._++_ t20 t1; slots = z0 }
+
+        abbrev G30 : Row.Cx
+        G30 = record {
+          locals = List._++_ t20 t1;
           slots = Row.lease (κs .0) (qs .0) ∷ Row.lease (κs .1 .0) (qs .1 .0) ∷ Row.lease (κs .1 .1 .0) (qs .1 .1 .0) ∷ Row.lease (κs .1 .1 .1 .0)
               (qs .1 .1 .1 .0) ∷ Row.off ∷ Row.off ∷ Row.off ∷ Row.alive ∷ Row.off ∷ Row.off ∷ Row.off ∷ Row.off ∷ Row.off ∷ Row.off ∷ [];
         }
 
-        abbrev G30 : Row.Cx
-        G30 = record { locals = List._++_ g20 t21; slots = z4 }
-
         abbrev G31 : Row.Cx
-        G31 = record { locals = List._++_ g20 t22; slots = z4 }
+        G31 = record { locals = List._++_ g21 t22; slots = z4 }
 
         abbrev G32 : Row.Cx
-        G32 = record {
-          locals = List._++_ g20 t22;
+        G32 = record { locals = List._++_ g21 t23; slots = z4 }
+
+        abbrev G33 : Row.Cx
+        G33 = record {
+          locals = List._++_ g21 t23;
           slots = Row.lease (κs .0) (qs .0) ∷ Row.off ∷ Row.lease (κs .1 .1 .0) (qs .1 .1 .0) ∷ Row.lease (κs .1 .1 .1 .0) (qs .1 .1 .1 .0) ∷
               Row.off ∷ Row.off ∷ Row.off ∷ Row.alive ∷ Row.alive ∷ Row.off ∷ Row.off ∷ Row.off ∷ Row.off ∷ Row.off ∷ [];
         }
 
-        abbrev G33 : Row.Cx
-        G33 = record {
-          locals = List._++_ g23 t24;
+        abbrev G34 : Row.Cx
+        G34 = record {
+          locals = List._++_ g24 t25;
           slots = Row.off ∷ Row.off ∷ Row.lease (κs .1 .1 .0) (qs .1 .1 .0) ∷ Row.lease (κs .1 .1 .1 .0) (qs .1 .1 .1 .0) ∷ Row.off ∷ Row.off ∷
               Row.off ∷ Row.alive ∷ Row.alive ∷ Row.off ∷ Row.off ∷ Row.off ∷ Row.off ∷ Row.off ∷ [];
         }
 
-        abbrev G34 : Row.Cx
-        G34 = record {
-          locals = List._++_ g23 t24;
+        abbrev G35 : Row.Cx
+        G35 = record {
+          locals = List._++_ g24 t25;
           slots = Row.off ∷ Row.off ∷ Row.lease (κs .1 .1 .0) (qs .1 .1 .0) ∷ Row.lease (κs .1 .1 .1 .0) (qs .1 .1 .1 .0) ∷ Row.off ∷ Row.off ∷
               Row.off ∷ Row.alive ∷ Row.alive ∷ Row.alive ∷ Row.off ∷ Row.off ∷ Row.off ∷ Row.off ∷ [];
         }
 
-        abbrev G35 : Row.Cx
-        G35 = record { locals = List._++_ g25 t26; slots = z5 }
-
         abbrev G36 : Row.Cx
-        G36 = record { locals = List._++_ g25 t27; slots = z5 }
+        G36 = record { locals = List._++_ g26 t27; slots = z5 }
 
         abbrev G37 : Row.Cx
-        G37 = record { locals = List._++_ g25 t27; slots = z6 }
+        G37 = record { locals = List._++_ g26 t28; slots = z5 }
 
         abbrev G38 : Row.Cx
-        G38 = record { locals = List._++_ g28 t29; slots = z6 }
+        G38 = record { locals = List._++_ g26 t28; slots = z6 }
 
         abbrev G39 : Row.Cx
-        G39 = record { locals = List._++_ g28 t30; slots = z6 }
+        G39 = record { locals = List._++_ g29 t30; slots = z6 }
 
         abbrev G40 : Row.Cx
-        G40 = record { locals = List._++_ g28 t31; slots = z6 }
+        G40 = record { locals = List._++_ g29 t31; slots = z6 }
 
         abbrev G41 : Row.Cx
-        G41 = record { locals = List._++_ g28 t32; slots = z6 }
+        G41 = record { locals = List._++_ g29 t32; slots = z6 }
 
         abbrev G42 : Row.Cx
-        G42 = record { locals = List._++_ g33 t32; slots = z6 }
+        G42 = record { locals = List._++_ g29 t33; slots = z6 }
 
         abbrev G43 : Row.Cx
-        G43 = record { locals = List._++_ g34 t32; slots = z6 }
+        G43 = record { locals = List._++_ g34 t33; slots = z6 }
 
         abbrev G44 : Row.Cx
         G44 = record { locals = List._++_ g34 t35; slots = z6 }
@@ -1969,8 +1962,8 @@ module _ (claims· : Claims) where
           d4 = Typed.g-pre 𝓤 H A W 𝓣 E G78 G79 b22 Δ0 (λ Ψ. Ψ) at3 (Lifetime.g-forget 𝓤 H A W E G78 13 Row.dead refl) d3
 
           d5 : Typed.Typed 𝓤 H A 𝓣 E G77 b22 Δ0 at5
-          d5 = Typed.g-pre 𝓤 H A W 𝓣 E G77 G78 b22 Δ0 (Typed.pass T75 T78 s76) at4 (Local.g-back-shr 𝓤 H A W E G77 11 13 r39 (Array'.Array L.u64 32) (λ x. x) (λ x. x) (Reads.as-is 𝓤 H A
-              (Rows'.sc-shr r39 (Array'.Array L.u64 32) (λ x. x) 13)) (Local.home-of 𝓤 H A r39 (Array'.Array L.u64 32) (λ x. x) (λ x. x) (Whole.arr-mem 𝓤 H A W L.u64 32 tt) λ x k. refl)
+          d5 = Typed.g-pre 𝓤 H A W 𝓣 E G77 G78 b22 Δ0 (Typed.pass T75 T78 s76) at4 (Local.g-back-shr 𝓤 H A W E G77 11 13 r41 (Array'.Array L.u64 32) (λ x. x) (λ x. x) (Reads.as-is 𝓤 H A
+              (Rows'.sc-shr r41 (Array'.Array L.u64 32) (λ x. x) 13)) (Local.home-of 𝓤 H A r41 (Array'.Array L.u64 32) (λ x. x) (λ x. x) (Whole.arr-mem 𝓤 H A W L.u64 32 tt) λ x k. refl)
               refl) d4
 
           d6 : Typed.Typed 𝓤 H A 𝓣 E G76 b22 Δ0 at6
@@ -2016,7 +2009,7 @@ module _ (claims· : Claims) where
               (Call.sub-id 𝓤 H A W (G69 .slots)) (
                 (
                   Yields.yields-copy 𝓤 H A W (λ ρ. Unit) (Declared.row Cache.the-type) refl (Copies.cStruct Cache.the-type Cache′.the-laws Cache′.the-copy .copy
-                      𝓤 H A W) r36 (λ x. x) (λ x. x) (λ ρ told. Local.mem-whole 𝓤 H A W (Declared.row Cache.the-type) ρ) λ ρ told. Local.whole-mem 𝓤 H A W (Declared.row Cache.the-type) ρ,
+                      𝓤 H A W) r37 (λ x. x) (λ x. x) (λ ρ told. Local.mem-whole 𝓤 H A W (Declared.row Cache.the-type) ρ) λ ρ told. Local.whole-mem 𝓤 H A W (Declared.row Cache.the-type) ρ,
                   refl,
                 ),
                 (
@@ -2269,8 +2262,8 @@ module _ (claims· : Claims) where
           d26 = Typed.g-pre 𝓤 H A W 𝓣 E G56 G57 b28 Δ0 (λ Ψ. Ψ) at25 (Lifetime.g-forget 𝓤 H A W E G56 10 Row.dead refl) d25
 
           d27 : Typed.Typed 𝓤 H A 𝓣 E G55 b28 Δ0 at27
-          d27 = Typed.g-pre 𝓤 H A W 𝓣 E G55 G56 b28 Δ0 (Typed.ask s54) at26 (Local.g-back-sc 𝓤 H A W E G55 23 11 10 (Array'.Array L.u64 32) y4 r39 (λ x. x) (λ x. x) (λ x. x) (Reads.as-is 𝓤
-              H A r11) (Reads.as-is 𝓤 H A r37) (Whole.arr-mem 𝓤 H A W L.u64 32 tt) refl) d26
+          d27 = Typed.g-pre 𝓤 H A W 𝓣 E G55 G56 b28 Δ0 (Typed.ask s54) at26 (Local.g-back-sc 𝓤 H A W E G55 23 11 10 (Array'.Array L.u64 32) y4 r41 (λ x. x) (λ x. x) (λ x. x) (Reads.as-is 𝓤
+              H A r11) (Reads.as-is 𝓤 H A r38) (Whole.arr-mem 𝓤 H A W L.u64 32 tt) refl) d26
 
           d28 : Typed.Typed 𝓤 H A 𝓣 E G54 b28 Δ0 at28
           d28 = Typed.g-pre 𝓤 H A W 𝓣 E G54 G55 b28 Δ0 (λ Ψ. Ψ) at27 (Lifetime.g-end 𝓤 H A W E G54 10 refl) d27
@@ -2313,22 +2306,18 @@ module _ (claims· : Claims) where
           d39 = Typed.g-pre 𝓤 H A W 𝓣 E G43 G44 b28 Δ0 (Typed.pass T43 T44 s42) at38 (Scalar.g-room 𝓤 H A W E G43 17 Y.tyUnit (Scalar.room-sc 𝓤 H A W Row.sUnit)) d38
 
           d40 : Typed.Typed 𝓤 H A 𝓣 E G42 b28 Δ0 at40
-          d40 = Typed.g-pre 𝓤 H A W 𝓣 E G42 G43 b28 Δ0 (Typed.pass T42 T43 s41) at39 (Scalar.g-room 𝓤 H A W E G42 10 NotAliveGenerationCounts′.mir (Local.room-whole 𝓤 H A W (Declared.row
-              NotAliveGenerationCounts.the-type) NotAliveGenerationCounts′.mir refl)) d39
+          d40 = Typed.g-pre 𝓤 H A W 𝓣 E G42 G43 b28 Δ0 (Typed.pass T42 T43 s41) at39 (Scalar.g-room 𝓤 H A W E G42 10 Ranking′.mir (Local.room-whole 𝓤 H A W (Declared.row Ranking.the-type)
+              Ranking′.mir refl)) d39
 
           d41 : Typed.Typed 𝓤 H A 𝓣 E G41 b28 Δ0 at41
-          d41 = Typed.g-pre 𝓤 H A W 𝓣 E G41 G42 b28 Δ0 (Typed.pass T41 T42 s40) at40 (Scalar.g-room 𝓤 H A W E G41 9 NotAliveGenerationCounts′.mir (Local.room-whole 𝓤 H A W (Declared.row
-              NotAliveGenerationCounts.the-type) NotAliveGenerationCounts′.mir refl)) d40
+          d41 = Typed.g-pre 𝓤 H A W 𝓣 E G41 G42 b28 Δ0 (Typed.pass T41 T42 s40) at40 (Local.g-drop-sref 𝓤 H A W E G41 20 8 (Array'.Array L.u64 928) y2 (λ x. x) (Reads.as-is 𝓤 H A r8)) d40
 
           d42 : Typed.Typed 𝓤 H A 𝓣 E G40 b28 Δ0 at42
-          d42 = Typed.g-pre 𝓤 H A W 𝓣 E G40 G41 b28 Δ0 (Typed.pass T40 T41 s39) at41 (Local.g-drop-sref 𝓤 H A W E G40 20 8 (Array'.Array L.u64 928) y2 (λ x. x) (Reads.as-is 𝓤 H A r8)) d41
+          d42 = Typed.g-pre 𝓤 H A W 𝓣 E G40 G41 b28 Δ0 (Typed.pass T40 T41 s39) at41 (Scalar.g-room 𝓤 H A W E G40 19 y8 (Shared.room-sslice 𝓤 H A W S.row y10 7)) d41
 
-          d43 : Typed.Typed 𝓤 H A 𝓣 E G39 b28 Δ0 at43
-          d43 = Typed.g-pre 𝓤 H A W 𝓣 E G39 G40 b28 Δ0 (Typed.pass T39 T40 s38) at42 (Scalar.g-room 𝓤 H A W E G39 19 y8 (Shared.room-sslice 𝓤 H A W S.row y10 7)) d42
-
-          d44 : Typed.Typed 𝓤 H A 𝓣 E G38 b29 Δ0 at44
-          d44 = Typed.s-seq 𝓤 H A W 𝓣 E G38 G39 b15 b28 Δ0 (Typed.both s37) at43 (Plain.t-call-plain 𝓤 H A W 𝓣 5 ps·4 r·4 (claims· .8) (claims· .9) "datasample_access::collect" (known .4) E
-              (λ pos β. β) G38 (
+          d43 : Typed.Typed 𝓤 H A 𝓣 E G39 b29 Δ0 at43
+          d43 = Typed.s-seq 𝓤 H A W 𝓣 E G39 G40 b15 b28 Δ0 (Typed.both s38) at42 (Plain.t-call-plain 𝓤 H A W 𝓣 5 ps·4 r·4 (claims· .8) (claims· .9) "datasample_access::collect" (known .4) E
+              (λ pos β. β) G39 (
                 record { pos = 19; ty = Y.tyRef Y.erased Y.imm S.named; ref = λ x. x },
                 (
                   record { pos = 20; ty = Y.tyRef Y.erased Y.imm y12; ref = λ x. x },
@@ -2342,75 +2331,66 @@ module _ (claims· : Claims) where
                     (
                       Num.vAt 5 λ x. x,
                       (
-                        record { pos = 9; st = []; d = 0; at = λ x. x },
+                        record { pos = 10; st = []; d = 0; at = λ x. x },
                         (
                           record {
-                            pos = 10;
-                            st = [];
-                            d = 0;
-                            at = λ x. x;
+                            pos = 22;
+                            ty = Y.tyRef Y.erased Y.mut
+                                (Y.tyInt Y.w64);
+                            ref = λ x. x;
                           },
-                          (record { pos = 22; ty = Y.tyRef Y.erased Y.mut (Y.tyInt Y.w64); ref = λ x. x }, (record { pos = 23; ty = Y.tyRef Y.erased Y.mut y14; ref = λ x. x }, tt)),
+                          (record { pos = 23; ty = Y.tyRef Y.erased Y.mut y14; ref = λ x. x }, tt),
                         ),
                       ),
                     ),
                   ),
                 ),
-              ) 17 (7 ∷ 8
-              ∷ 2 ∷ 9 ∷ 10 ∷ []) (Call.sub-id 𝓤 H A W (G38 .slots)) (
+              ) 17 (7 ∷ 8 ∷ 2 ∷ 9 ∷ 10 ∷ []) (Call.sub-id 𝓤 H A W (G39
+              .slots)) (
                 ShrSlice.spares-sslice 𝓤 H A W S.row y10 7,
                 Shared.reads-sslice 𝓤 H A W S.row y10 7,
                 refl,
                 (
-                  ShrRef.spares-sref 𝓤 H A W
-                      (Array'.Array L.u64 928) y2 8,
+                  ShrRef.spares-sref 𝓤 H A W (Array'.Array L.u64 928) y2 8,
                   Reads.reads-sref 𝓤 H A W (Array'.Array L.u64 928) y2 8,
                   refl,
                   (
                     ShrRef.spares-sref 𝓤 H A W (Array'.Array L.u64 256) y1 2,
-                    Reads.reads-sref 𝓤 H A
-                        W (Array'.Array L.u64 256) y1 2,
+                    Reads.reads-sref 𝓤 H A W (Array'.Array L.u64 256) y1
+                        2,
                     refl,
                     (
                       (Scalar.reads-sc 𝓤 H A W (Row.sInt Y.w64), refl),
                       (
                         (
-                          Yields.yields-copy 𝓤 H A W (λ ρ. Unit) (Declared.row
-                              NotAliveGenerationCounts.the-type) refl (Copies.cStruct NotAliveGenerationCounts.the-type NotAliveGenerationCounts′.the-laws NotAliveGenerationCounts′.the-copy .copy 𝓤 H A W) r21 (λ x. x) (λ x. x) (λ ρ told.
-                              Local.mem-whole 𝓤 H A W (Declared.row NotAliveGenerationCounts.the-type) ρ) λ ρ told. Local.whole-mem 𝓤 H A W (Declared.row NotAliveGenerationCounts.the-type) ρ,
+                          Yields.yields-copy 𝓤 H A W (λ ρ. Unit) (Declared.row Ranking.the-type) refl (Copies.cStruct Ranking.the-type
+                              Ranking′.the-laws Ranking′.the-copy .copy 𝓤 H A W) r36 (λ x. x) (λ x. x) (λ ρ told. Local.mem-whole 𝓤 H A W (Declared.row Ranking.the-type) ρ) λ ρ told. Local.whole-mem 𝓤 H A W
+                              (Declared.row Ranking.the-type) ρ,
                           refl,
                         ),
                         (
+                          Reads.as-is 𝓤 H A r22,
+                          Mut.reads-mslice 𝓤 H A W L.u64 y7 9,
+                          refl,
                           (
-                            Yields.yields-copy 𝓤 H A W (λ ρ. Unit) (Declared.row NotAliveGenerationCounts.the-type) refl (Copies.cStruct NotAliveGenerationCounts.the-type NotAliveGenerationCounts′.the-laws NotAliveGenerationCounts′.the-copy
-                                .copy 𝓤 H A W) r21 (λ x. x) (λ x. x) (λ ρ told. Local.mem-whole 𝓤 H A W (Declared.row NotAliveGenerationCounts.the-type) ρ) λ ρ told. Local.whole-mem 𝓤 H A W (Declared.row
-                                NotAliveGenerationCounts.the-type) ρ,
+                            Reads.as-is 𝓤 H A (Rows'.mref (Array'.Array L.u64 32) y4 10),
+                            Reads.reads-mref 𝓤 H A W (Array'.Array L.u64 32) y4 10,
                             refl,
-                          ),
-                          (
-                            Reads.as-is 𝓤 H A r22,
-                            Mut.reads-mslice 𝓤 H A W L.u64 y7 9,
-                            refl,
-                            (
-                              Reads.as-is 𝓤 H A (Rows'.mref (Array'.Array L.u64 32) y4 10),
-                              Reads.reads-mref 𝓤 H A W (Array'.Array L.u64 32) y4 10,
-                              refl,
-                              tt,
-                            ),
+                            tt,
                           ),
                         ),
                       ),
                     ),
                   ),
                 ),
-              ) (Reads.room-gone 𝓤 H A Y.tyUnit) (tt, (tt, (tt, (tt, (tt, tt))))) refl) d43
+              ) (Reads.room-gone 𝓤 H A Y.tyUnit) (tt, (tt, (tt, (tt, (tt, tt))))) refl) d42
+
+          d44 : Typed.Typed 𝓤 H A 𝓣 E G38 b30 Δ0 at44
+          d44 = Typed.s-seq 𝓤 H A W 𝓣 E G38 G39 b14 b29 Δ0 (Typed.give s37) at43 (Local.t-sc-borrow 𝓤 H A W E 𝓣 G38 11 23 10 (Array'.Array L.u64 32) y4 (λ x. x) (Whole.mem-arr 𝓤 H A W L.u64
+              32) (Reads.room-gone 𝓤 H A y4) refl λ b o. tt) d43
 
           d45 : Typed.Typed 𝓤 H A 𝓣 E G37 b30 Δ0 at45
-          d45 = Typed.s-seq 𝓤 H A W 𝓣 E G37 G38 b14 b29 Δ0 (Typed.give s36) at44 (Local.t-sc-borrow 𝓤 H A W E 𝓣 G37 11 23 10 (Array'.Array L.u64 32) y4 (λ x. x) (Whole.mem-arr 𝓤 H A W L.u64
-              32) (Reads.room-gone 𝓤 H A y4) refl λ b o. tt) d44
-
-          d46 : Typed.Typed 𝓤 H A 𝓣 E G36 b30 Δ0 at46
-          d46 = Typed.g-pre 𝓤 H A W 𝓣 E G36 G37 b30 Δ0 (λ Ψ. Ψ) at45 (Lifetime.g-begin 𝓤 H A W E G36 10 (
+          d45 = Typed.g-pre 𝓤 H A W 𝓣 E G37 G38 b30 Δ0 (λ Ψ. Ψ) at44 (Lifetime.g-begin 𝓤 H A W E G37 10 (
             tt,
             (
               tt,
@@ -2449,22 +2429,22 @@ module _ (claims· : Claims) where
                 ),
               ),
             ),
-          )) d45
+          )) d44
 
-          d47 : Typed.Typed 𝓤 H A 𝓣 E G35 b31 Δ0 at47
-          d47 = Typed.s-seq 𝓤 H A W 𝓣 E G35 G36 b13 b30 Δ0 (Typed.ask s34) at46 (Relend.t-sl-aggregate 𝓤 H A W E L.u64 𝓣 (Relend.asMut L.u64) G35 21 22 9 y7 y7 (λ x. x) (Scalar.oFld 7
+          d46 : Typed.Typed 𝓤 H A 𝓣 E G36 b31 Δ0 at46
+          d46 = Typed.s-seq 𝓤 H A W 𝓣 E G36 G37 b13 b30 Δ0 (Typed.ask s35) at45 (Relend.t-sl-aggregate 𝓤 H A W E L.u64 𝓣 (Relend.asMut L.u64) G36 21 22 9 y7 y7 (λ x. x) (Scalar.oFld 7
               (Y.field 1 ∷ []) (Y.tyInt Y.w64) 8 λ v. Shared.lenV (v .0)) (Reads.as-is 𝓤 H A (Relend.msptr L.u64 y7 9)) (Reads.room-gone 𝓤 H A (L.sl y7)) (
                 Relend.reads-owed-len 𝓤 H A W
                     L.u64 y6 3 9 (Row.lease (κs .1 .1 .1 .0) (qs .1 .1 .1 .0)) 8 refl,
                 refl,
-              ) refl refl λ b o k. tt) d46
+              ) refl refl λ b o k. tt) d45
+
+          d47 : Typed.Typed 𝓤 H A 𝓣 E G35 b32 Δ0 at47
+          d47 = Typed.s-seq 𝓤 H A W 𝓣 E G35 G36 b12 b31 Δ0 (Typed.give s34) at46 (Relend.t-sl-relend 𝓤 H A W E L.u64 𝓣 G35 7 21 3 9 y6 y7 (Row.lease (κs .1 .1 .1 .0) (qs .1 .1 .1 .0)) 0 (λ
+              x. x) (Reads.as-is 𝓤 H A r19) (Reads.room-gone 𝓤 H A y7) refl tt refl refl refl λ b o. tt) d46
 
           d48 : Typed.Typed 𝓤 H A 𝓣 E G34 b32 Δ0 at48
-          d48 = Typed.s-seq 𝓤 H A W 𝓣 E G34 G35 b12 b31 Δ0 (Typed.give s33) at47 (Relend.t-sl-relend 𝓤 H A W E L.u64 𝓣 G34 7 21 3 9 y6 y7 (Row.lease (κs .1 .1 .1 .0) (qs .1 .1 .1 .0)) 0 (λ
-              x. x) (Reads.as-is 𝓤 H A r19) (Reads.room-gone 𝓤 H A y7) refl tt refl refl refl λ b o. tt) d47
-
-          d49 : Typed.Typed 𝓤 H A 𝓣 E G33 b32 Δ0 at49
-          d49 = Typed.g-pre 𝓤 H A W 𝓣 E G33 G34 b32 Δ0 (λ Ψ. Ψ) at48 (Lifetime.g-begin 𝓤 H A W E G33 9 (
+          d48 = Typed.g-pre 𝓤 H A W 𝓣 E G34 G35 b32 Δ0 (λ Ψ. Ψ) at47 (Lifetime.g-begin 𝓤 H A W E G34 9 (
             tt,
             (
               tt,
@@ -2509,14 +2489,14 @@ module _ (claims· : Claims) where
                 ),
               ),
             ),
-          )) d48
+          )) d47
+
+          d49 : Typed.Typed 𝓤 H A 𝓣 E G33 b33 Δ0 at49
+          d49 = Typed.s-seq 𝓤 H A W 𝓣 E G33 G34 b11 b32 Δ0 (Typed.give s32) at48 (Reshare.t-mref-reshare 𝓤 H A W E 𝓣 G33 2 20 0 8 (Array'.Array L.u64 928) y12 y0 y2 (Row.lease (κs .0) (qs
+              .0)) (λ x. x) (Reads.as-is 𝓤 H A r4) (Reads.room-gone 𝓤 H A y2) refl tt refl refl λ b o. tt) d48
 
           d50 : Typed.Typed 𝓤 H A 𝓣 E G32 b33 Δ0 at50
-          d50 = Typed.s-seq 𝓤 H A W 𝓣 E G32 G33 b11 b32 Δ0 (Typed.give s31) at49 (Reshare.t-mref-reshare 𝓤 H A W E 𝓣 G32 2 20 0 8 (Array'.Array L.u64 928) y12 y0 y2 (Row.lease (κs .0) (qs
-              .0)) (λ x. x) (Reads.as-is 𝓤 H A r4) (Reads.room-gone 𝓤 H A y2) refl tt refl refl λ b o. tt) d49
-
-          d51 : Typed.Typed 𝓤 H A 𝓣 E G31 b33 Δ0 at51
-          d51 = Typed.g-pre 𝓤 H A W 𝓣 E G31 G32 b33 Δ0 (λ Ψ. Ψ) at50 (Lifetime.g-begin 𝓤 H A W E G31 8 (
+          d50 = Typed.g-pre 𝓤 H A W 𝓣 E G32 G33 b33 Δ0 (λ Ψ. Ψ) at49 (Lifetime.g-begin 𝓤 H A W E G32 8 (
             tt,
             (
               tt,
@@ -2564,22 +2544,22 @@ module _ (claims· : Claims) where
                 ),
               ),
             ),
-          )) d50
+          )) d49
 
-          d52 : Typed.Typed 𝓤 H A 𝓣 E G30 b34 Δ0 at52
-          d52 = Typed.s-seq 𝓤 H A W 𝓣 E G30 G31 b10 b33 Δ0 (Typed.ask s29) at51 (Relend.t-sl-aggregate 𝓤 H A W E S.row 𝓣 (Relend.asShr S.row) G30 18 19 7 y10 y10 (λ x. x) (Scalar.oFld 3
+          d51 : Typed.Typed 𝓤 H A 𝓣 E G31 b34 Δ0 at51
+          d51 = Typed.s-seq 𝓤 H A W 𝓣 E G31 G32 b10 b33 Δ0 (Typed.ask s30) at50 (Relend.t-sl-aggregate 𝓤 H A W E S.row 𝓣 (Relend.asShr S.row) G31 18 19 7 y10 y10 (λ x. x) (Scalar.oFld 3
               (Y.field 1 ∷ []) (Y.tyInt Y.w64) 8 λ v. Shared.lenV (v .0)) (Reads.as-is 𝓤 H A (Relend.ssptr S.row y10 7)) (Reads.room-gone 𝓤 H A y8) (
                 Reshare'.reads-owedS-len 𝓤 H A W S.row
                     y9 1 7 (Row.lease (κs .1 .0) (qs .1 .0)) 8 refl,
                 refl,
-              ) refl refl λ b o k. tt) d51
+              ) refl refl λ b o k. tt) d50
+
+          d52 : Typed.Typed 𝓤 H A 𝓣 E G30 b35 Δ0 at52
+          d52 = Typed.s-seq 𝓤 H A W 𝓣 E G30 G31 b9 b34 Δ0 (Typed.give s29) at51 (Reshare'.t-sl-reshare 𝓤 H A W E S.row 𝓣 G30 3 18 1 7 y9 y10 (Row.lease (κs .1 .0) (qs .1 .0)) 0 (λ x. x)
+              (Reads.as-is 𝓤 H A r25) (Reads.room-gone 𝓤 H A y10) refl tt refl refl refl λ b o. tt) d51
 
           d53 : Typed.Typed 𝓤 H A 𝓣 E G29 b35 Δ0 at53
-          d53 = Typed.s-seq 𝓤 H A W 𝓣 E G29 G30 b9 b34 Δ0 (Typed.give s28) at52 (Reshare'.t-sl-reshare 𝓤 H A W E S.row 𝓣 G29 3 18 1 7 y9 y10 (Row.lease (κs .1 .0) (qs .1 .0)) 0 (λ x. x)
-              (Reads.as-is 𝓤 H A r25) (Reads.room-gone 𝓤 H A y10) refl tt refl refl refl λ b o. tt) d52
-
-          d54 : Typed.Typed 𝓤 H A 𝓣 E G28 b35 Δ0 at54
-          d54 = Typed.g-pre 𝓤 H A W 𝓣 E G28 G29 b35 Δ0 (λ Ψ. Ψ) at53 (Lifetime.g-begin 𝓤 H A W E G28 7 (
+          d53 = Typed.g-pre 𝓤 H A W 𝓣 E G29 G30 b35 Δ0 (λ Ψ. Ψ) at52 (Lifetime.g-begin 𝓤 H A W E G29 7 (
             tt,
             (
               tt,
@@ -2630,33 +2610,55 @@ module _ (claims· : Claims) where
                 ),
               ),
             ),
-          )) d53
+          )) d52
 
-          d55 : Typed.Typed 𝓤 H A 𝓣 E G27 b35 Δ0 at55
-          d55 = Typed.g-pre 𝓤 H A W 𝓣 E G27 G28 b35 Δ0 (Typed.pass T27 T28 s26) at54 (AtSlots.g-as-by 𝓤 H A W E (λ ρ. Unit) G27 11 r39 (λ x. x) (Own.told-none 𝓤 H A (G27 .slots)) λ ρ told.
-              Repeat.whole-arr 𝓤 H A W L.u64 32 tt ρ) d54
+          d54 : Typed.Typed 𝓤 H A 𝓣 E G28 b35 Δ0 at54
+          d54 = Typed.g-pre 𝓤 H A W 𝓣 E G28 G29 b35 Δ0 (Typed.pass T28 T29 s27) at53 (AtSlots.g-as-by 𝓤 H A W E (λ ρ. Unit) G28 11 r41 (λ x. x) (Own.told-none 𝓤 H A (G28 .slots)) λ ρ told.
+              Repeat.whole-arr 𝓤 H A W L.u64 32 tt ρ) d53
+
+          d55 : Typed.Typed 𝓤 H A 𝓣 E G27 b36 Δ0 at55
+          d55 = Typed.s-seq 𝓤 H A W 𝓣 E G27 G28 b8 b35 Δ0 (Typed.pass T27 T28 s26) at54 (Repeat.t-repeat 𝓤 H A W E 𝓣 L.u64 (Plain'.uint-lawful 𝓤 H A W Y.w64) (Copies.cRf (Referent.fInt
+              Y.w64) .copy 𝓤 H A W) (Plain'.uint-makes 𝓤 H A W Y.w64) 32 G27 11 (Scalar.oInt Y.w64 0) (λ m. 0) (Reads.room-gone 𝓤 H A y14) tt refl λ m wa. (refl, Dec'.lit< tt)) d54
 
           d56 : Typed.Typed 𝓤 H A 𝓣 E G26 b36 Δ0 at56
-          d56 = Typed.s-seq 𝓤 H A W 𝓣 E G26 G27 b8 b35 Δ0 (Typed.pass T25 T27 s25) at55 (Repeat.t-repeat 𝓤 H A W E 𝓣 L.u64 (Plain'.uint-lawful 𝓤 H A W Y.w64) (Copies.cRf (Referent.fInt
-              Y.w64) .copy 𝓤 H A W) (Plain'.uint-makes 𝓤 H A W Y.w64) 32 G26 11 (Scalar.oInt Y.w64 0) (λ m. 0) (Reads.room-gone 𝓤 H A y14) tt refl λ m wa. (refl, Dec'.lit< tt)) d55
+          d56 = Typed.g-pre 𝓤 H A W 𝓣 E G26 G27 b36 Δ0 (Typed.pass T26 T27 s25) at55 (Scalar.g-room 𝓤 H A W E G26 15 NotAliveGenerationCounts′.mir (Local.room-whole 𝓤 H A W (Declared.row
+              NotAliveGenerationCounts.the-type) NotAliveGenerationCounts′.mir refl)) d55
 
           d57 : Typed.Typed 𝓤 H A 𝓣 E G25 b36 Δ0 at57
-          d57 = Typed.g-pre 𝓤 H A W 𝓣 E G25 G26 b36 Δ0 (λ Ψ. Ψ) at56 (Lifetime.g-forget 𝓤 H A W E G25 6 Row.dead refl) d56
+          d57 = Typed.g-pre 𝓤 H A W 𝓣 E G25 G26 b36 Δ0 (Typed.pass T25 T26 s24) at56 (Scalar.g-room 𝓤 H A W E G25 9 S.ty (S.room 𝓤 H A W)) d56
 
-          d58 : Typed.Typed 𝓤 H A 𝓣 E G24 b36 Δ0 at58
-          d58 = Typed.g-pre 𝓤 H A W 𝓣 E G24 G25 b36 Δ0 (Typed.pass T23 T25 s23) at57 (Reshare.g-back-mref-shr 𝓤 H A W E G24 2 0 6 (Array'.Array L.u64 928) y0 (Row.lease (κs .0) (qs .0)) (λ
-              x. x) (Reads.as-is 𝓤 H A (Reshare.mref-owedS (Array'.Array L.u64 928) y0 0 6 (Row.lease (κs .0) (qs .0)))) refl refl) d57
+          d58 : Typed.Typed 𝓤 H A 𝓣 E G24 b37 Δ0 at58
+          d58 = Typed.s-seq 𝓤 H A W 𝓣 E G24 G25 b7 b36 Δ0 (Typed.both s23) at57 (Plain.t-call-plain 𝓤 H A W 𝓣 0 ps·3 r·3 (claims· .6) (claims· .7) "datasample_access::ranking_of" (known .3)
+              E (λ pos β. β) G24 (record { pos = 9; st = []; d = 0; at = λ x. x }, (record { pos = 15; st = []; d = 0; at = λ x. x }, tt)) 10 [] (Call.sub-id 𝓤 H A W (G24 .slots)) (
+                (S.yields 𝓤 H A W, refl),
+                (
+                  (
+                    Yields.yields-copy 𝓤 H A W (λ ρ. Unit) (Declared.row NotAliveGenerationCounts.the-type) refl (Copies.cStruct NotAliveGenerationCounts.the-type
+                        NotAliveGenerationCounts′.the-laws NotAliveGenerationCounts′.the-copy .copy 𝓤 H A W) r21 (λ x. x) (λ x. x) (λ ρ told. Local.mem-whole 𝓤 H A W (Declared.row NotAliveGenerationCounts.the-type) ρ) λ ρ told.
+                        Local.whole-mem 𝓤 H A W (Declared.row NotAliveGenerationCounts.the-type) ρ,
+                    refl,
+                  ),
+                  tt,
+                ),
+              ) (Reads.room-gone 𝓤 H A Ranking′.mir) tt refl) d57
 
-          d59 : Typed.Typed 𝓤 H A 𝓣 E G23 b36 Δ0 at59
-          d59 = Typed.g-pre 𝓤 H A W 𝓣 E G23 G24 b36 Δ0 (λ Ψ. Ψ) at58 (Lifetime.g-end 𝓤 H A W E G23 6 refl) d58
+          d59 : Typed.Typed 𝓤 H A 𝓣 E G23 b37 Δ0 at59
+          d59 = Typed.g-pre 𝓤 H A W 𝓣 E G23 G24 b37 Δ0 (λ Ψ. Ψ) at58 (Lifetime.g-forget 𝓤 H A W E G23 6 Row.dead refl) d58
 
-          d60 : Typed.Typed 𝓤 H A 𝓣 E G22 b36 Δ0 at60
-          d60 = Typed.g-pre 𝓤 H A W 𝓣 E G22 G23 b36 Δ0 (Typed.pass T22 T23 s21) at59 (Local.g-drop-sref 𝓤 H A W E G22 16 6 (Array'.Array L.u64 928) y2 (λ x. x) (Reads.as-is 𝓤 H A
-              (Rows'.sref (Array'.Array L.u64 928) y2 6))) d59
+          d60 : Typed.Typed 𝓤 H A 𝓣 E G22 b37 Δ0 at60
+          d60 = Typed.g-pre 𝓤 H A W 𝓣 E G22 G23 b37 Δ0 (Typed.pass T21 T23 s21) at59 (Reshare.g-back-mref-shr 𝓤 H A W E G22 2 0 6 (Array'.Array L.u64 928) y0 (Row.lease (κs .0) (qs .0)) (λ
+              x. x) (Reads.as-is 𝓤 H A (Reshare.mref-owedS (Array'.Array L.u64 928) y0 0 6 (Row.lease (κs .0) (qs .0)))) refl refl) d59
 
           d61 : Typed.Typed 𝓤 H A 𝓣 E G21 b37 Δ0 at61
-          d61 = Typed.s-seq 𝓤 H A W 𝓣 E G21 G22 b7 b36 Δ0 (Typed.both s20) at60 (Plain.t-call-plain 𝓤 H A W 𝓣 2 ps·3 r·3 (claims· .6) (claims· .7) "access::last_counts" (known .3) E (λ pos
-              β. β) G21 (
+          d61 = Typed.g-pre 𝓤 H A W 𝓣 E G21 G22 b37 Δ0 (λ Ψ. Ψ) at60 (Lifetime.g-end 𝓤 H A W E G21 6 refl) d60
+
+          d62 : Typed.Typed 𝓤 H A 𝓣 E G20 b37 Δ0 at62
+          d62 = Typed.g-pre 𝓤 H A W 𝓣 E G20 G21 b37 Δ0 (Typed.pass T20 T21 s19) at61 (Local.g-drop-sref 𝓤 H A W E G20 16 6 (Array'.Array L.u64 928) y2 (λ x. x) (Reads.as-is 𝓤 H A
+              (Rows'.sref (Array'.Array L.u64 928) y2 6))) d61
+
+          d63 : Typed.Typed 𝓤 H A 𝓣 E G19 b38 Δ0 at63
+          d63 = Typed.s-seq 𝓤 H A W 𝓣 E G19 G20 b6 b37 Δ0 (Typed.both s18) at62 (Plain.t-call-plain 𝓤 H A W 𝓣 2 ps·2 r·2 (claims· .4) (claims· .5) "access::last_counts" (known .2) E (λ pos
+              β. β) G19 (
                 record { pos = 16; ty = Y.tyRef Y.erased Y.imm y12; ref = λ x. x },
                 (
                   record { pos = 4; ty = Y.tyRef (Y.named 2) Y.imm y13; ref = λ x. x },
@@ -2665,7 +2667,7 @@ module _ (claims· : Claims) where
                     tt,
                   ),
                 ),
-              ) 10 (6 ∷ 2 ∷ []) (Call.sub-id 𝓤 H A W (G21 .slots)) (
+              ) 15 (6 ∷ 2 ∷ []) (Call.sub-id 𝓤 H A W (G19 .slots)) (
                 ShrRef.spares-sref 𝓤 H A W (Array'.Array L.u64 928) y2 6,
                 Reads.reads-sref 𝓤 H A W (Array'.Array L.u64 928) y2 6,
                 refl,
@@ -2681,14 +2683,14 @@ module _ (claims· : Claims) where
                     tt,
                   ),
                 ),
-              ) (Reads.room-gone 𝓤 H A NotAliveGenerationCounts′.mir) (tt, (tt, tt)) refl) d60
+              ) (Reads.room-gone 𝓤 H A NotAliveGenerationCounts′.mir) (tt, (tt, tt)) refl) d62
 
-          d62 : Typed.Typed 𝓤 H A 𝓣 E G20 b38 Δ0 at62
-          d62 = Typed.s-seq 𝓤 H A W 𝓣 E G20 G21 b6 b37 Δ0 (Typed.give s19) at61 (Reshare.t-mref-reshare 𝓤 H A W E 𝓣 G20 2 16 0 6 (Array'.Array L.u64 928) y12 y0 y2 (Row.lease (κs .0) (qs
-              .0)) (λ x. x) (Reads.as-is 𝓤 H A r4) (Reads.room-gone 𝓤 H A y2) refl tt refl refl λ b o. tt) d61
+          d64 : Typed.Typed 𝓤 H A 𝓣 E G18 b39 Δ0 at64
+          d64 = Typed.s-seq 𝓤 H A W 𝓣 E G18 G19 b5 b38 Δ0 (Typed.give s17) at63 (Reshare.t-mref-reshare 𝓤 H A W E 𝓣 G18 2 16 0 6 (Array'.Array L.u64 928) y12 y0 y2 (Row.lease (κs .0) (qs
+              .0)) (λ x. x) (Reads.as-is 𝓤 H A r4) (Reads.room-gone 𝓤 H A y2) refl tt refl refl λ b o. tt) d63
 
-          d63 : Typed.Typed 𝓤 H A 𝓣 E G19 b38 Δ0 at63
-          d63 = Typed.g-pre 𝓤 H A W 𝓣 E G19 G20 b38 Δ0 (λ Ψ. Ψ) at62 (Lifetime.g-begin 𝓤 H A W E G19 6 (
+          d65 : Typed.Typed 𝓤 H A 𝓣 E G17 b39 Δ0 at65
+          d65 = Typed.g-pre 𝓤 H A W 𝓣 E G17 G18 b39 Δ0 (λ Ψ. Ψ) at64 (Lifetime.g-begin 𝓤 H A W E G17 6 (
             tt,
             (
               tt,
@@ -2739,15 +2741,7 @@ module _ (claims· : Claims) where
                 ),
               ),
             ),
-          )) d62
-
-          d64 : Typed.Typed 𝓤 H A 𝓣 E G18 b38 Δ0 at64
-          d64 = Typed.g-pre 𝓤 H A W 𝓣 E G18 G19 b38 Δ0 (Typed.pass T18 T19 s17) at63 (Scalar.g-room 𝓤 H A W E G18 13 S.ty (S.room 𝓤 H A W)) d63
-
-          d65 : Typed.Typed 𝓤 H A 𝓣 E G17 b39 Δ0 at65
-          d65 = Typed.s-seq 𝓤 H A W 𝓣 E G17 G18 b5 b38 Δ0 (Typed.both s16) at64 (Plain.t-call-plain 𝓤 H A W 𝓣 0 ps·2 r·2 (claims· .4) (claims· .5) "datasample_access::counts_of" (known .2)
-              E (λ pos β. β) G17 (record { pos = 13; st = []; d = 0; at = λ x. x }, tt) 9 [] (Call.sub-id 𝓤 H A W (G17 .slots)) ((S.yields 𝓤 H A W, refl), tt) (Reads.room-gone 𝓤 H A
-              NotAliveGenerationCounts′.mir) tt refl) d64
+          )) d64
 
           d66 : Typed.Typed 𝓤 H A 𝓣 E G16 b39 Δ0 at66
           d66 = Typed.g-pre 𝓤 H A W 𝓣 E G16 G17 b39 Δ0 (λ Ψ. Ψ) at65 (Lifetime.g-forget 𝓤 H A W E G16 5 Row.dead refl) d65
@@ -2760,20 +2754,20 @@ module _ (claims· : Claims) where
           d68 = Typed.g-pre 𝓤 H A W 𝓣 E G14 G15 b39 Δ0 (λ Ψ. Ψ) at67 (Lifetime.g-end 𝓤 H A W E G14 5 refl) d67
 
           d69 : Typed.Typed 𝓤 H A 𝓣 E G13 b39 Δ0 at69
-          d69 = Typed.g-pre 𝓤 H A W 𝓣 E G13 G14 b39 Δ0 (Typed.pass T13 T14 s12) at68 (Scalar.g-room 𝓤 H A W E G13 15 y8 (Shared.room-sslice 𝓤 H A W S.row y10 5)) d68
+          d69 = Typed.g-pre 𝓤 H A W 𝓣 E G13 G14 b39 Δ0 (Typed.pass T13 T14 s12) at68 (Scalar.g-room 𝓤 H A W E G13 14 y8 (Shared.room-sslice 𝓤 H A W S.row y10 5)) d68
 
           d70 : Typed.Typed 𝓤 H A 𝓣 E G12 b40 Δ0 at70
           d70 = Typed.s-seq 𝓤 H A W 𝓣 E G12 G13 b4 b39 Δ0 (Typed.both s11) at69 (Plain.t-call-plain 𝓤 H A W 𝓣 1 ps·1 r·1 (claims· .2) (claims· .3) "samples::peek" (known .1) E (λ pos β. β)
-              G12 (record { pos = 15; ty = Y.tyRef Y.erased Y.imm S.named; ref = λ x. x }, (Num.vAt 8 λ x. x, tt)) 13 (5 ∷ []) (Call.sub-id 𝓤 H A W (G12 .slots)) (
-                ShrSlice.spares-sslice 𝓤
-                    H A W S.row y10 5,
+              G12 (record { pos = 14; ty = Y.tyRef Y.erased Y.imm S.named; ref = λ x. x }, (Num.vAt 8 λ x. x, tt)) 9 (5 ∷ []) (Call.sub-id 𝓤 H A W (G12 .slots)) (
+                ShrSlice.spares-sslice 𝓤 H
+                    A W S.row y10 5,
                 Shared.reads-sslice 𝓤 H A W S.row y10 5,
                 refl,
                 ((Scalar.reads-sc 𝓤 H A W (Row.sInt Y.w64), refl), tt),
               ) (Reads.room-gone 𝓤 H A S.ty) (tt, tt) refl) d69
 
           d71 : Typed.Typed 𝓤 H A 𝓣 E G11 b41 Δ0 at71
-          d71 = Typed.s-seq 𝓤 H A W 𝓣 E G11 G12 b3 b40 Δ0 (Typed.ask s10) at70 (Relend.t-sl-aggregate 𝓤 H A W E S.row 𝓣 (Relend.asShr S.row) G11 14 15 5 y10 y10 (λ x. x) (Scalar.oFld 3
+          d71 = Typed.s-seq 𝓤 H A W 𝓣 E G11 G12 b3 b40 Δ0 (Typed.ask s10) at70 (Relend.t-sl-aggregate 𝓤 H A W E S.row 𝓣 (Relend.asShr S.row) G11 13 14 5 y10 y10 (λ x. x) (Scalar.oFld 3
               (Y.field 1 ∷ []) (Y.tyInt Y.w64) 8 λ v. Shared.lenV (v .0)) (Reads.as-is 𝓤 H A r28) (Reads.room-gone 𝓤 H A y8) (
                 Reshare'.reads-owedS-len 𝓤 H A W S.row y9 1 5 (Row.lease (κs .1
                     .0) (qs .1 .0)) 8 refl,
@@ -2781,7 +2775,7 @@ module _ (claims· : Claims) where
               ) refl refl λ b o k. tt) d70
 
           d72 : Typed.Typed 𝓤 H A 𝓣 E G10 b42 Δ0 at72
-          d72 = Typed.s-seq 𝓤 H A W 𝓣 E G10 G11 b2 b41 Δ0 (Typed.give s9) at71 (Reshare'.t-sl-reshare 𝓤 H A W E S.row 𝓣 G10 3 14 1 5 y9 y10 (Row.lease (κs .1 .0) (qs .1 .0)) 0 (λ x. x)
+          d72 = Typed.s-seq 𝓤 H A W 𝓣 E G10 G11 b2 b41 Δ0 (Typed.give s9) at71 (Reshare'.t-sl-reshare 𝓤 H A W E S.row 𝓣 G10 3 13 1 5 y9 y10 (Row.lease (κs .1 .0) (qs .1 .0)) 0 (λ x. x)
               (Reads.as-is 𝓤 H A r25) (Reads.room-gone 𝓤 H A y10) refl tt refl refl refl λ b o. tt) d71
 
           d73 : Typed.Typed 𝓤 H A 𝓣 E G9 b42 Δ0 at73
@@ -2855,7 +2849,7 @@ module _ (claims· : Claims) where
           d78 = Typed.s-seq 𝓤 H A W 𝓣 E G4 G5 b1 b42 Δ0 (Typed.both s3) at77 (Plain.t-call-plain 𝓤 H A W 𝓣 1 ps·0 r·0 (claims· .0) (claims· .1) "lookup::latest_slot" (known .0) E (λ pos β.
               β) G4 (record { pos = 1; st = []; d = 0; at = λ x. x }, (record { pos = 12; ty = Y.tyRef Y.erased Y.imm y12; ref = λ x. x }, tt)) 8 (4 ∷ []) (Call.sub-id 𝓤 H A W (G4 .slots)) (
                 (
-                  Yields.yields-copy 𝓤 H A W (λ ρ. Unit) (Declared.row Cache.the-type) refl (Copies.cStruct Cache.the-type Cache′.the-laws Cache′.the-copy .copy 𝓤 H A W) r36 (λ x. x) (λ x. x) (λ
+                  Yields.yields-copy 𝓤 H A W (λ ρ. Unit) (Declared.row Cache.the-type) refl (Copies.cStruct Cache.the-type Cache′.the-laws Cache′.the-copy .copy 𝓤 H A W) r37 (λ x. x) (λ x. x) (λ
                       ρ told. Local.mem-whole 𝓤 H A W (Declared.row Cache.the-type) ρ) λ ρ told. Local.whole-mem 𝓤 H A W (Declared.row Cache.the-type) ρ,
                   refl,
                 ),
@@ -3059,7 +3053,7 @@ module _ (claims· : Claims) where
 
       module _ (before· : After-peek-arg) where
         abbrev pub After-peek·own : Type 0
-        After-peek·own = Called.Called ps·1 r·1 (claims· .3) T12 (record { pos = 15; ty = Y.tyRef Y.erased Y.imm S.named; ref = λ x. x }, (Num.vAt 8 λ x. x, tt)) (m7 (before· .before)
+        After-peek·own = Called.Called ps·1 r·1 (claims· .3) T12 (record { pos = 14; ty = Y.tyRef Y.erased Y.imm S.named; ref = λ x. x }, (Num.vAt 8 λ x. x, tt)) (m7 (before· .before)
             (before· .peek-arg .given))
 
       pub record After-peek : Type 0 where
@@ -3067,7 +3061,7 @@ module _ (claims· : Claims) where
         pub peek : After-peek·own before
 
       abbrev pub After-peek·gave : (c : After-peek) → s11 .gives (m7 (c .before .before) (c .before .peek-arg .given))
-      After-peek·gave = λ c. Called.given ps·1 r·1 (claims· .3) T12 (record { pos = 15; ty = Y.tyRef Y.erased Y.imm S.named; ref = λ x. x }, (Num.vAt 8 λ x. x, tt)) (m7 (c .before .before)
+      After-peek·gave = λ c. Called.given ps·1 r·1 (claims· .3) T12 (record { pos = 14; ty = Y.tyRef Y.erased Y.imm S.named; ref = λ x. x }, (Num.vAt 8 λ x. x, tt)) (m7 (c .before .before)
           (c .before .peek-arg .given)) (c .peek)
 
       abbrev pub m9 : (before : After-peek-arg) → (given : s11 .gives (m7 (before .before) (before .peek-arg .given))) → Typed.Mo T14
@@ -3076,47 +3070,26 @@ module _ (claims· : Claims) where
       abbrev pub m10 : (before : After-peek-arg) → (given : s11 .gives (m7 (before .before) (before .peek-arg .given))) → Typed.Mo T16
       m10 = λ before given. s14 (m9 before given)
 
-      abbrev pub Need-counts-of-requires : Type 0
-      Need-counts-of-requires = (c : After-peek) → s16 .asks (m10 (c .before) (After-peek·gave c))
-
-      abbrev pub m11 : (before : After-peek) → (given : s16 .gives (m10 (before .before) (After-peek·gave before))) → Typed.Mo T18
-      m11 = λ before given. s16 .next (m10 (before .before) (After-peek·gave before)) given
+      abbrev pub m11 : (before : After-peek) → (given : s17 .gives (m10 (before .before) (After-peek·gave before))) → Typed.Mo T19
+      m11 = λ before given. s17 .next (m10 (before .before) (After-peek·gave before)) given
 
       module _ (before· : After-peek) where
-        abbrev pub After-counts-of·own : Type 0
-        After-counts-of·own = Called.Called ps·2 r·2 (claims· .5) T16 (record { pos = 13; st = []; d = 0; at = λ x. x }, tt) (m10 (before· .before) (After-peek·gave before·))
-
-      pub record After-counts-of : Type 0 where
-        pub before : After-peek
-        pub counts-of : After-counts-of·own before
-
-      abbrev pub After-counts-of·gave : (c : After-counts-of) → s16 .gives (m10 (c .before .before) (After-peek·gave (c .before)))
-      After-counts-of·gave = λ c. Called.given ps·2 r·2 (claims· .5) T16 (record { pos = 13; st = []; d = 0; at = λ x. x }, tt) (m10 (c .before .before) (After-peek·gave (c .before))) (c
-          .counts-of)
-
-      abbrev pub m12 : (before : After-peek) → (given : s16 .gives (m10 (before .before) (After-peek·gave before))) → Typed.Mo T19
-      m12 = λ before given. s17 (m11 before given)
-
-      abbrev pub m13 : (before : After-counts-of) → (given : s19 .gives (m12 (before .before) (After-counts-of·gave before))) → Typed.Mo T21
-      m13 = λ before given. s19 .next (m12 (before .before) (After-counts-of·gave before)) given
-
-      module _ (before· : After-counts-of) where
         pub record After-last-counts-arg·own : Type 0 where
-          pub given : s19 .gives (m12 (before· .before) (After-counts-of·gave before·))
+          pub given : s17 .gives (m10 (before· .before) (After-peek·gave before·))
 
       pub record After-last-counts-arg : Type 0 where
-        pub before : After-counts-of
+        pub before : After-peek
         pub last-counts-arg : After-last-counts-arg·own before
 
       abbrev pub Need-last-counts-requires : Type 0
-      Need-last-counts-requires = (c : After-last-counts-arg) → s20 .asks (m13 (c .before) (c .last-counts-arg .given))
+      Need-last-counts-requires = (c : After-last-counts-arg) → s18 .asks (m11 (c .before) (c .last-counts-arg .given))
 
-      abbrev pub m14 : (before : After-last-counts-arg) → (given : s20 .gives (m13 (before .before) (before .last-counts-arg .given))) → Typed.Mo T22
-      m14 = λ before given. s20 .next (m13 (before .before) (before .last-counts-arg .given)) given
+      abbrev pub m12 : (before : After-last-counts-arg) → (given : s18 .gives (m11 (before .before) (before .last-counts-arg .given))) → Typed.Mo T20
+      m12 = λ before given. s18 .next (m11 (before .before) (before .last-counts-arg .given)) given
 
       module _ (before· : After-last-counts-arg) where
         abbrev pub After-last-counts·own : Type 0
-        After-last-counts·own = Called.Called ps·3 r·3 (claims· .7) T21 (
+        After-last-counts·own = Called.Called ps·2 r·2 (claims· .5) T19 (
           record { pos = 16; ty = Y.tyRef Y.erased Y.imm y12; ref = λ x. x },
           (
             record {
@@ -3127,14 +3100,14 @@ module _ (claims· : Claims) where
             },
             (Num.vAt 5 λ x. x, tt),
           ),
-        ) (m13 (before· .before) (before· .last-counts-arg .given))
+        ) (m11 (before· .before) (before· .last-counts-arg .given))
 
       pub record After-last-counts : Type 0 where
         pub before : After-last-counts-arg
         pub last-counts : After-last-counts·own before
 
-      abbrev pub After-last-counts·gave : (c : After-last-counts) → s20 .gives (m13 (c .before .before) (c .before .last-counts-arg .given))
-      After-last-counts·gave = λ c. Called.given ps·3 r·3 (claims· .7) T21 (
+      abbrev pub After-last-counts·gave : (c : After-last-counts) → s18 .gives (m11 (c .before .before) (c .before .last-counts-arg .given))
+      After-last-counts·gave = λ c. Called.given ps·2 r·2 (claims· .5) T19 (
         record { pos = 16; ty = Y.tyRef Y.erased Y.imm y12; ref = λ x. x },
         (
           record {
@@ -3145,79 +3118,104 @@ module _ (claims· : Claims) where
           },
           (Num.vAt 5 λ x. x, tt),
         ),
-      ) (m13 (c .before .before) (c .before .last-counts-arg .given)) (c .last-counts)
+      ) (m11 (c .before .before) (c .before .last-counts-arg .given)) (c .last-counts)
 
-      abbrev pub m15 : (before : After-last-counts-arg) → (given : s20 .gives (m13 (before .before) (before .last-counts-arg .given))) → Typed.Mo T23
-      m15 = λ before given. s21 (m14 before given)
+      abbrev pub m13 : (before : After-last-counts-arg) → (given : s18 .gives (m11 (before .before) (before .last-counts-arg .given))) → Typed.Mo T21
+      m13 = λ before given. s19 (m12 before given)
 
-      abbrev pub m16 : (before : After-last-counts-arg) → (given : s20 .gives (m13 (before .before) (before .last-counts-arg .given))) → Typed.Mo T25
-      m16 = λ before given. s23 (m15 before given)
+      abbrev pub m14 : (before : After-last-counts-arg) → (given : s18 .gives (m11 (before .before) (before .last-counts-arg .given))) → Typed.Mo T23
+      m14 = λ before given. s21 (m13 before given)
 
-      abbrev pub m17 : (before : After-last-counts-arg) → (given : s20 .gives (m13 (before .before) (before .last-counts-arg .given))) → Typed.Mo T27
-      m17 = λ before given. s25 (m16 before given)
+      abbrev pub Need-ranking-of-requires : Type 0
+      Need-ranking-of-requires = (c : After-last-counts) → s23 .asks (m14 (c .before) (After-last-counts·gave c))
 
-      abbrev pub m18 : (before : After-last-counts-arg) → (given : s20 .gives (m13 (before .before) (before .last-counts-arg .given))) → Typed.Mo T28
-      m18 = λ before given. s26 (m17 before given)
-
-      abbrev pub m19 : (before : After-last-counts) → (given : s28 .gives (m18 (before .before) (After-last-counts·gave before))) → Typed.Mo T30
-      m19 = λ before given. s28 .next (m18 (before .before) (After-last-counts·gave before)) given
-
-      abbrev pub m20 : (before : After-last-counts) → (given : s28 .gives (m18 (before .before) (After-last-counts·gave before))) → Typed.Mo T31
-      m20 = λ before given. s29 .next (m19 before given)
+      abbrev pub m15 : (before : After-last-counts) → (given : s23 .gives (m14 (before .before) (After-last-counts·gave before))) → Typed.Mo T25
+      m15 = λ before given. s23 .next (m14 (before .before) (After-last-counts·gave before)) given
 
       module _ (before· : After-last-counts) where
+        abbrev pub After-ranking-of·own : Type 0
+        After-ranking-of·own = Called.Called ps·3 r·3 (claims· .7) T23 (record { pos = 9; st = []; d = 0; at = λ x. x }, (record { pos = 15; st = []; d = 0; at = λ x. x }, tt)) (m14
+            (before· .before) (After-last-counts·gave before·))
+
+      pub record After-ranking-of : Type 0 where
+        pub before : After-last-counts
+        pub ranking-of : After-ranking-of·own before
+
+      abbrev pub After-ranking-of·gave : (c : After-ranking-of) → s23 .gives (m14 (c .before .before) (After-last-counts·gave (c .before)))
+      After-ranking-of·gave = λ c. Called.given ps·3 r·3 (claims· .7) T23 (record { pos = 9; st = []; d = 0; at = λ x. x }, (record { pos = 15; st = []; d = 0; at = λ x. x }, tt)) (m14 (c
+          .before .before) (After-last-counts·gave (c .before))) (c .ranking-of)
+
+      abbrev pub m16 : (before : After-last-counts) → (given : s23 .gives (m14 (before .before) (After-last-counts·gave before))) → Typed.Mo T26
+      m16 = λ before given. s24 (m15 before given)
+
+      abbrev pub m17 : (before : After-last-counts) → (given : s23 .gives (m14 (before .before) (After-last-counts·gave before))) → Typed.Mo T27
+      m17 = λ before given. s25 (m16 before given)
+
+      abbrev pub m18 : (before : After-last-counts) → (given : s23 .gives (m14 (before .before) (After-last-counts·gave before))) → Typed.Mo T28
+      m18 = λ before given. s26 (m17 before given)
+
+      abbrev pub m19 : (before : After-last-counts) → (given : s23 .gives (m14 (before .before) (After-last-counts·gave before))) → Typed.Mo T29
+      m19 = λ before given. s27 (m18 before given)
+
+      abbrev pub m20 : (before : After-ranking-of) → (given : s29 .gives (m19 (before .before) (After-ranking-of·gave before))) → Typed.Mo T31
+      m20 = λ before given. s29 .next (m19 (before .before) (After-ranking-of·gave before)) given
+
+      abbrev pub m21 : (before : After-ranking-of) → (given : s29 .gives (m19 (before .before) (After-ranking-of·gave before))) → Typed.Mo T32
+      m21 = λ before given. s30 .next (m20 before given)
+
+      module _ (before· : After-ranking-of) where
         pub record After-collect-arg·own : Type 0 where
-          pub given : s28 .gives (m18 (before· .before) (After-last-counts·gave before·))
+          pub given : s29 .gives (m19 (before· .before) (After-ranking-of·gave before·))
 
       pub record After-collect-arg : Type 0 where
-        pub before : After-last-counts
+        pub before : After-ranking-of
         pub collect-arg : After-collect-arg·own before
 
-      abbrev pub m21 : (before : After-collect-arg) → (given : s31 .gives (m20 (before .before) (before .collect-arg .given))) → Typed.Mo T33
-      m21 = λ before given. s31 .next (m20 (before .before) (before .collect-arg .given)) given
+      abbrev pub m22 : (before : After-collect-arg) → (given : s32 .gives (m21 (before .before) (before .collect-arg .given))) → Typed.Mo T34
+      m22 = λ before given. s32 .next (m21 (before .before) (before .collect-arg .given)) given
 
       module _ (before· : After-collect-arg) where
         pub record After-collect-arg2·own : Type 0 where
-          pub given : s31 .gives (m20 (before· .before) (before· .collect-arg .given))
+          pub given : s32 .gives (m21 (before· .before) (before· .collect-arg .given))
 
       pub record After-collect-arg2 : Type 0 where
         pub before : After-collect-arg
         pub collect-arg2 : After-collect-arg2·own before
 
-      abbrev pub m22 : (before : After-collect-arg2) → (given : s33 .gives (m21 (before .before) (before .collect-arg2 .given))) → Typed.Mo T35
-      m22 = λ before given. s33 .next (m21 (before .before) (before .collect-arg2 .given)) given
+      abbrev pub m23 : (before : After-collect-arg2) → (given : s34 .gives (m22 (before .before) (before .collect-arg2 .given))) → Typed.Mo T36
+      m23 = λ before given. s34 .next (m22 (before .before) (before .collect-arg2 .given)) given
 
-      abbrev pub m23 : (before : After-collect-arg2) → (given : s33 .gives (m21 (before .before) (before .collect-arg2 .given))) → Typed.Mo T36
-      m23 = λ before given. s34 .next (m22 before given)
+      abbrev pub m24 : (before : After-collect-arg2) → (given : s34 .gives (m22 (before .before) (before .collect-arg2 .given))) → Typed.Mo T37
+      m24 = λ before given. s35 .next (m23 before given)
 
       module _ (before· : After-collect-arg2) where
         pub record After-collect-arg3·own : Type 0 where
-          pub given : s33 .gives (m21 (before· .before) (before· .collect-arg2 .given))
+          pub given : s34 .gives (m22 (before· .before) (before· .collect-arg2 .given))
 
       pub record After-collect-arg3 : Type 0 where
         pub before : After-collect-arg2
         pub collect-arg3 : After-collect-arg3·own before
 
-      abbrev pub m24 : (before : After-collect-arg3) → (given : s36 .gives (m23 (before .before) (before .collect-arg3 .given))) → Typed.Mo T38
-      m24 = λ before given. s36 .next (m23 (before .before) (before .collect-arg3 .given)) given
+      abbrev pub m25 : (before : After-collect-arg3) → (given : s37 .gives (m24 (before .before) (before .collect-arg3 .given))) → Typed.Mo T39
+      m25 = λ before given. s37 .next (m24 (before .before) (before .collect-arg3 .given)) given
 
       module _ (before· : After-collect-arg3) where
         pub record After-seen·own : Type 0 where
-          pub given : s36 .gives (m23 (before· .before) (before· .collect-arg3 .given))
+          pub given : s37 .gives (m24 (before· .before) (before· .collect-arg3 .given))
 
       pub record After-seen : Type 0 where
         pub before : After-collect-arg3
         pub seen : After-seen·own before
 
       abbrev pub Need-collect-requires : Type 0
-      Need-collect-requires = (c : After-seen) → s37 .asks (m24 (c .before) (c .seen .given))
+      Need-collect-requires = (c : After-seen) → s38 .asks (m25 (c .before) (c .seen .given))
 
-      abbrev pub m25 : (before : After-seen) → (given : s37 .gives (m24 (before .before) (before .seen .given))) → Typed.Mo T39
-      m25 = λ before given. s37 .next (m24 (before .before) (before .seen .given)) given
+      abbrev pub m26 : (before : After-seen) → (given : s38 .gives (m25 (before .before) (before .seen .given))) → Typed.Mo T40
+      m26 = λ before given. s38 .next (m25 (before .before) (before .seen .given)) given
 
       module _ (before· : After-seen) where
         abbrev pub After-collect·own : Type 0
-        After-collect·own = Called.Called ps·4 r·4 (claims· .9) T38 (
+        After-collect·own = Called.Called ps·4 r·4 (claims· .9) T39 (
           record { pos = 19; ty = Y.tyRef Y.erased Y.imm S.named; ref = λ x. x },
           (
             record {
@@ -3231,40 +3229,29 @@ module _ (claims· : Claims) where
               (
                 Num.vAt 5 λ x. x,
                 (
-                  record { pos = 9; st = []; d = 0; at = λ x. x },
+                  record { pos = 10; st = []; d = 0; at = λ x. x },
                   (
                     record {
                       pos
-                          = 10;
-                      st = [];
-                      d = 0;
-                      at = λ x. x;
+                          = 22;
+                      ty = Y.tyRef Y.erased Y.mut (Y.tyInt Y.w64);
+                      ref = λ x. x;
                     },
-                    (
-                      record { pos = 22; ty = Y.tyRef Y.erased Y.mut (Y.tyInt Y.w64); ref = λ x. x },
-                      (
-                        record {
-                          pos = 23;
-                          ty = Y.tyRef Y.erased Y.mut y14;
-                          ref =
-                              λ x. x;
-                        },
-                        tt,
-                      ),
-                    ),
+                    (record { pos = 23; ty = Y.tyRef Y.erased Y.mut y14; ref = λ x. x }, tt),
                   ),
                 ),
               ),
             ),
           ),
-        ) (m24 (before· .before) (before· .seen .given))
+        ) (m25 (before· .before)
+            (before· .seen .given))
 
       pub record After-collect : Type 0 where
         pub before : After-seen
         pub collect : After-collect·own before
 
-      abbrev pub After-collect·gave : (c : After-collect) → s37 .gives (m24 (c .before .before) (c .before .seen .given))
-      After-collect·gave = λ c. Called.given ps·4 r·4 (claims· .9) T38 (
+      abbrev pub After-collect·gave : (c : After-collect) → s38 .gives (m25 (c .before .before) (c .before .seen .given))
+      After-collect·gave = λ c. Called.given ps·4 r·4 (claims· .9) T39 (
         record { pos = 19; ty = Y.tyRef Y.erased Y.imm S.named; ref = λ x. x },
         (
           record {
@@ -3278,52 +3265,38 @@ module _ (claims· : Claims) where
             (
               Num.vAt 5 λ x. x,
               (
-                record { pos = 9; st = []; d = 0; at = λ x. x },
+                record { pos = 10; st = []; d = 0; at = λ x. x },
                 (
                   record {
-                    pos = 10;
-                    st = [];
-                    d = 0;
-                    at = λ x. x;
+                    pos = 22;
+                    ty = Y.tyRef Y.erased Y.mut (Y.tyInt Y.w64);
+                    ref = λ x. x;
                   },
-                  (
-                    record { pos = 22; ty = Y.tyRef Y.erased Y.mut (Y.tyInt Y.w64); ref = λ x. x },
-                    (
-                      record {
-                        pos = 23;
-                        ty = Y.tyRef Y.erased Y.mut y14;
-                        ref
-                            = λ x. x;
-                      },
-                      tt,
-                    ),
-                  ),
+                  (record { pos = 23; ty = Y.tyRef Y.erased Y.mut y14; ref = λ x. x }, tt),
                 ),
               ),
             ),
           ),
         ),
-      ) (m24 (c .before .before) (c .before .seen .given)) (c .collect)
+      ) (m25 (c .before .before) (c
+          .before .seen .given)) (c .collect)
 
-      abbrev pub m26 : (before : After-seen) → (given : s37 .gives (m24 (before .before) (before .seen .given))) → Typed.Mo T40
-      m26 = λ before given. s38 (m25 before given)
-
-      abbrev pub m27 : (before : After-seen) → (given : s37 .gives (m24 (before .before) (before .seen .given))) → Typed.Mo T41
+      abbrev pub m27 : (before : After-seen) → (given : s38 .gives (m25 (before .before) (before .seen .given))) → Typed.Mo T41
       m27 = λ before given. s39 (m26 before given)
 
-      abbrev pub m28 : (before : After-seen) → (given : s37 .gives (m24 (before .before) (before .seen .given))) → Typed.Mo T42
+      abbrev pub m28 : (before : After-seen) → (given : s38 .gives (m25 (before .before) (before .seen .given))) → Typed.Mo T42
       m28 = λ before given. s40 (m27 before given)
 
-      abbrev pub m29 : (before : After-seen) → (given : s37 .gives (m24 (before .before) (before .seen .given))) → Typed.Mo T43
+      abbrev pub m29 : (before : After-seen) → (given : s38 .gives (m25 (before .before) (before .seen .given))) → Typed.Mo T43
       m29 = λ before given. s41 (m28 before given)
 
-      abbrev pub m30 : (before : After-seen) → (given : s37 .gives (m24 (before .before) (before .seen .given))) → Typed.Mo T44
+      abbrev pub m30 : (before : After-seen) → (given : s38 .gives (m25 (before .before) (before .seen .given))) → Typed.Mo T44
       m30 = λ before given. s42 (m29 before given)
 
-      abbrev pub m31 : (before : After-seen) → (given : s37 .gives (m24 (before .before) (before .seen .given))) → Typed.Mo T46
+      abbrev pub m31 : (before : After-seen) → (given : s38 .gives (m25 (before .before) (before .seen .given))) → Typed.Mo T46
       m31 = λ before given. s44 (m30 before given)
 
-      abbrev pub m32 : (before : After-seen) → (given : s37 .gives (m24 (before .before) (before .seen .given))) → Typed.Mo T49
+      abbrev pub m32 : (before : After-seen) → (given : s38 .gives (m25 (before .before) (before .seen .given))) → Typed.Mo T49
       m32 = λ before given. s47 (m31 before given)
 
       abbrev pub m33 : (before : After-collect) → (given : s50 .gives (m32 (before .before) (After-collect·gave before))) → Typed.Mo T52
@@ -3554,8 +3527,8 @@ module _ (claims· : Claims) where
           .before .before .before .before .before .before .before .before .before .before .before .before .before .before .before .before .before .before .before .before .before .args))
           (m51 (c .before) (After-settle·gave c) .1)))
 
-      module _ (latest-slot-requires : Need-latest-slot-requires) (peek-requires : Need-peek-requires) (counts-of-requires : Need-counts-of-requires) (last-counts-requires :
-          Need-last-counts-requires) (collect-requires : Need-collect-requires) (touch-all-requires : Need-touch-all-requires) (settle-requires : Need-settle-requires) (same-length :
+      module _ (latest-slot-requires : Need-latest-slot-requires) (peek-requires : Need-peek-requires) (last-counts-requires : Need-last-counts-requires) (ranking-of-requires :
+          Need-ranking-of-requires) (collect-requires : Need-collect-requires) (touch-all-requires : Need-touch-all-requires) (settle-requires : Need-settle-requires) (same-length :
           Need-same-length) (same-length-2 : Need-same-length-2) (returns : Need-returns) where
         lay7 : (c : After-settle) → at12 (W0 (c .before .before .before .before .before .before .before .before .before .before .before .before .before .before .before .before .before
             .before .before .before .before .κs) (c .before .before .before .before .before .before .before .before .before .before .before .before .before .before .before .before .before
@@ -3646,8 +3619,8 @@ module _ (claims· : Claims) where
           ),
         )
 
-        lay5 : (c : After-collect) → at43 (W0 (c .before .before .before .before .before .before .before .before .before .before .before .before .before .κs) (c .before .before .before
-            .before .before .before .before .before .before .before .before .before .before .args)) (m25 (c .before) (After-collect·gave c))
+        lay5 : (c : After-collect) → at42 (W0 (c .before .before .before .before .before .before .before .before .before .before .before .before .before .κs) (c .before .before .before
+            .before .before .before .before .before .before .before .before .before .before .args)) (m26 (c .before) (After-collect·gave c))
         lay5 = λ c. (
           refl,
           λ g. λ g'. (
@@ -3703,8 +3676,8 @@ module _ (claims· : Claims) where
           ),
         )
 
-        lay4 : (c : After-last-counts) → at60 (W0 (c .before .before .before .before .before .before .before .before .κs) (c .before .before .before .before .before .before .before .before
-            .args)) (m14 (c .before) (After-last-counts·gave c))
+        lay4 : (c : After-ranking-of) → at57 (W0 (c .before .before .before .before .before .before .before .before .κs) (c .before .before .before .before .before .before .before .before
+            .args)) (m15 (c .before) (After-ranking-of·gave c))
         lay4 = λ c. λ g. (
           refl,
           λ g'. λ g''. (
@@ -3716,8 +3689,8 @@ module _ (claims· : Claims) where
                     before = record {
                       before = record {
                         before = c .before;
-                        last-counts
-                            = c .last-counts;
+                        ranking-of
+                            = c .ranking-of;
                       };
                       collect-arg = record { given = g };
                     };
@@ -3733,7 +3706,7 @@ module _ (claims· : Claims) where
                       before = record {
                         before = record {
                           before = record {
-                            before = record { before = c .before; last-counts = c .last-counts };
+                            before = record { before = c .before; ranking-of = c .ranking-of };
                             collect-arg =
                                 record { given = g };
                           };
@@ -3744,7 +3717,7 @@ module _ (claims· : Claims) where
                       seen = record { given = g'3 };
                     };
                     collect = Called.called ps·4 r·4
-                        (claims· .9) T38 (
+                        (claims· .9) T39 (
                           record { pos = 19; ty = Y.tyRef Y.erased Y.imm S.named; ref = λ x. x },
                           (
                             record { pos = 20; ty = Y.tyRef Y.erased Y.imm y12; ref = λ x. x },
@@ -3758,22 +3731,28 @@ module _ (claims· : Claims) where
                               (
                                 Num.vAt 5 λ x. x,
                                 (
-                                  record { pos = 9; st = []; d = 0; at = λ x. x },
+                                  record { pos = 10; st = []; d = 0; at = λ x. x },
                                   (
-                                    record { pos = 10; st = []; d = 0; at = λ x. x },
-                                    (record { pos = 22; ty = Y.tyRef Y.erased Y.mut (Y.tyInt Y.w64); ref = λ x. x }, (record { pos = 23; ty = Y.tyRef Y.erased Y.mut y14; ref = λ x. x }, tt)),
+                                    record {
+                                      pos = 22;
+                                      ty = Y.tyRef Y.erased Y.mut
+                                          (Y.tyInt Y.w64);
+                                      ref = λ x. x;
+                                    },
+                                    (record { pos = 23; ty = Y.tyRef Y.erased Y.mut y14; ref = λ x. x }, tt),
                                   ),
                                 ),
                               ),
                             ),
                           ),
-                        ) (m24 record {
+                        ) (m25 record {
                           before = record {
-                            before = record { before = record { before = c .before; last-counts = c .last-counts }; collect-arg = record { given = g } };
-                            collect-arg2 = record {
-                              given =
-                                  g';
+                            before = record {
+                              before =
+                                  record { before = c .before; ranking-of = c .ranking-of };
+                              collect-arg = record { given = g };
                             };
+                            collect-arg2 = record { given = g' };
                           };
                           collect-arg3 = record { given = g'' };
                         } g'3) g'4;
@@ -3782,25 +3761,39 @@ module _ (claims· : Claims) where
           ),
         )
 
-        lay3 : (c : After-counts-of) → at64 (W0 (c .before .before .before .before .before .before .κs) (c .before .before .before .before .before .before .args)) (m11 (c .before)
-            (After-counts-of·gave c))
-        lay3 = λ c. λ g. (
-          last-counts-requires record { before = record { before = c .before; counts-of = c .counts-of }; last-counts-arg = record { given = g } },
-          λ g'. lay4 record {
-            before = record { before = record { before = c .before; counts-of = c .counts-of }; last-counts-arg = record { given = g } };
-            last-counts = Called.called ps·3 r·3 (claims· .7)
-                T21 (record { pos = 16; ty = Y.tyRef Y.erased Y.imm y12; ref = λ x. x }, (record { pos = 4; ty = Y.tyRef (Y.named 2) Y.imm y13; ref = λ x. x }, (Num.vAt 5 λ x. x, tt))) (m13
-                record { before = c .before; counts-of = c .counts-of } g) g';
+        lay3 : (c : After-last-counts) → at62 (W0 (c .before .before .before .before .before .before .before .κs) (c .before .before .before .before .before .before .before .args)) (m12 (c
+            .before) (After-last-counts·gave c))
+        lay3 = λ c. (
+          ranking-of-requires record { before = c .before; last-counts = c .last-counts },
+          λ g. lay4 record {
+            before = record {
+              before = c .before;
+              last-counts = c .last-counts;
+            };
+            ranking-of = Called.called ps·3 r·3 (claims· .7) T23 (record { pos = 9; st = []; d = 0; at = λ x. x }, (record { pos = 15; st = []; d = 0; at = λ x. x }, tt)) (m14 (c
+                .before) (After-last-counts·gave c)) g;
           },
         )
 
         lay2 : (c : After-peek) → at69 (W0 (c .before .before .before .before .before .κs) (c .before .before .before .before .before .args)) (m8 (c .before) (After-peek·gave c))
-        lay2 = λ c. (
-          counts-of-requires record { before = c .before; peek = c .peek },
-          λ g. lay3 record {
-            before = record { before = c .before; peek = c .peek };
-            counts-of = Called.called
-                ps·2 r·2 (claims· .5) T16 (record { pos = 13; st = []; d = 0; at = λ x. x }, tt) (m10 (c .before) (After-peek·gave c)) g;
+        lay2 = λ c. λ g. (
+          last-counts-requires record { before = record { before = c .before; peek = c .peek }; last-counts-arg = record { given = g } },
+          λ g'. lay3 record {
+            before =
+                record { before = record { before = c .before; peek = c .peek }; last-counts-arg = record { given = g } };
+            last-counts = Called.called ps·2 r·2 (claims· .5) T19 (
+              record {
+                pos =
+                    16;
+                ty = Y.tyRef Y.erased Y.imm y12;
+                ref = λ x. x;
+              },
+              (record { pos = 4; ty = Y.tyRef (Y.named 2) Y.imm y13; ref = λ x. x }, (Num.vAt 5 λ x. x, tt)),
+            ) (m11 record {
+              before = c
+                  .before;
+              peek = c .peek;
+            } g) g';
           },
         )
 
@@ -3815,7 +3808,7 @@ module _ (claims· : Claims) where
               peek = Called.called ps·1 r·1 (claims· .3) T12 (
                 record {
                   pos
-                      = 15;
+                      = 14;
                   ty = Y.tyRef Y.erased Y.imm S.named;
                   ref = λ x. x;
                 },
@@ -3860,8 +3853,8 @@ module _ (claims· : Claims) where
           }
 
         module _ {M : Type 1} (𝓤 : URA.URA M) (H : Wp.Heap 𝓤) (A : Atoms.Atoms 𝓤) (W : Kit.Given 𝓤 H A) (𝓣 : Wp.Tables 𝓤 H) (known0 : Plain.Known 𝓤 H A W 𝓣 1 ps·0 r·0 (claims· .0) (claims·
-            .1) "lookup::latest_slot") (known1 : Plain.Known 𝓤 H A W 𝓣 1 ps·1 r·1 (claims· .2) (claims· .3) "samples::peek") (known2 : Plain.Known 𝓤 H A W 𝓣 0 ps·2 r·2 (claims· .4) (claims·
-            .5) "datasample_access::counts_of") (known3 : Plain.Known 𝓤 H A W 𝓣 2 ps·3 r·3 (claims· .6) (claims· .7) "access::last_counts") (known4 : Plain.Known 𝓤 H A W 𝓣 5 ps·4 r·4
+            .1) "lookup::latest_slot") (known1 : Plain.Known 𝓤 H A W 𝓣 1 ps·1 r·1 (claims· .2) (claims· .3) "samples::peek") (known2 : Plain.Known 𝓤 H A W 𝓣 2 ps·2 r·2 (claims· .4) (claims·
+            .5) "access::last_counts") (known3 : Plain.Known 𝓤 H A W 𝓣 0 ps·3 r·3 (claims· .6) (claims· .7) "datasample_access::ranking_of") (known4 : Plain.Known 𝓤 H A W 𝓣 5 ps·4 r·4
             (claims· .8) (claims· .9) "datasample_access::collect") (known5 : Plain.Known 𝓤 H A W 𝓣 2 ps·5 r·5 (claims· .10) (claims· .11) "datasample_access::touch_all") (known6 :
             Plain.Known 𝓤 H A W 𝓣 3 ps·6 r·6 (claims· .12) (claims· .13) "access::settle") where
           pub spec : Statement.Triple 𝓤 (Wp.WpFn 𝓤 H (𝓣 .C) (𝓣 .Λ) (Function.fnOf 4 ps r xs m hs body)) (Function.plainOf 𝓤 H A 4 ps r Pre· Post·)

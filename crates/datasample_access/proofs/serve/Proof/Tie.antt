@@ -11,9 +11,9 @@ use Rattle.datasample_access.proofs.Lent.serve.Reads as Reads'4
 use Rattle.datasample_access.proofs.Lent.touch_all.Reads as Reads'5
 use Rattle.datasample_access.proofs.collect.Met as Met''
 use Rattle.datasample_access.proofs.collect.Symbol as Symbol''
-use Rattle.datasample_access.proofs.counts_of.Met as Met'3
-use Rattle.datasample_access.proofs.counts_of.Reads as Reads'3
-use Rattle.datasample_access.proofs.counts_of.Symbol as Symbol'3
+use Rattle.datasample_access.proofs.ranking_of.Met as Met'3
+use Rattle.datasample_access.proofs.ranking_of.Reads as Reads'3
+use Rattle.datasample_access.proofs.ranking_of.Symbol as Symbol'3
 use Rattle.datasample_access.proofs.serve.Code
 use Rattle.datasample_access.proofs.serve.Key
 use Rattle.datasample_access.proofs.serve.Proof.Lts
@@ -36,10 +36,10 @@ claims = (
   Reads'6.Learnt,
   Reads'7.Asked,
   Reads'7.Learnt,
-  Reads'3.Asked,
-  Reads'3.Learnt,
   Reads.Asked,
   Reads.Learnt,
+  Reads'3.Asked,
+  Reads'3.Learnt,
   Reads''.Asked,
   Reads''.Learnt,
   Reads'5.Asked,
@@ -66,14 +66,14 @@ After-peek-arg = Lts.After-peek-arg claims Reads'4.Pre Reads'4.Post
 abbrev pub After-peek : Type 0
 After-peek = Lts.After-peek claims Reads'4.Pre Reads'4.Post
 
-abbrev pub After-counts-of : Type 0
-After-counts-of = Lts.After-counts-of claims Reads'4.Pre Reads'4.Post
-
 abbrev pub After-last-counts-arg : Type 0
 After-last-counts-arg = Lts.After-last-counts-arg claims Reads'4.Pre Reads'4.Post
 
 abbrev pub After-last-counts : Type 0
 After-last-counts = Lts.After-last-counts claims Reads'4.Pre Reads'4.Post
+
+abbrev pub After-ranking-of : Type 0
+After-ranking-of = Lts.After-ranking-of claims Reads'4.Pre Reads'4.Post
 
 abbrev pub After-collect-arg : Type 0
 After-collect-arg = Lts.After-collect-arg claims Reads'4.Pre Reads'4.Post
@@ -120,11 +120,11 @@ Need-latest-slot-requires = Lts.Need-latest-slot-requires claims Reads'4.Pre Rea
 abbrev pub Need-peek-requires : Type 0
 Need-peek-requires = Lts.Need-peek-requires claims Reads'4.Pre Reads'4.Post
 
-abbrev pub Need-counts-of-requires : Type 0
-Need-counts-of-requires = Lts.Need-counts-of-requires claims Reads'4.Pre Reads'4.Post
-
 abbrev pub Need-last-counts-requires : Type 0
 Need-last-counts-requires = Lts.Need-last-counts-requires claims Reads'4.Pre Reads'4.Post
+
+abbrev pub Need-ranking-of-requires : Type 0
+Need-ranking-of-requires = Lts.Need-ranking-of-requires claims Reads'4.Pre Reads'4.Post
 
 abbrev pub Need-collect-requires : Type 0
 Need-collect-requires = Lts.Need-collect-requires claims Reads'4.Pre Reads'4.Post
@@ -145,7 +145,7 @@ abbrev pub Need-returns : Type 0
 Need-returns = Lts.Need-returns claims Reads'4.Pre Reads'4.Post
 
 module _ {M : Type 1} where
-  pub spec : (answer : Need-latest-slot-requires) → (answer : Need-peek-requires) → (answer : Need-counts-of-requires) → (answer : Need-last-counts-requires) → (answer :
+  pub spec : (answer : Need-latest-slot-requires) → (answer : Need-peek-requires) → (answer : Need-last-counts-requires) → (answer : Need-ranking-of-requires) → (answer :
       Need-collect-requires) → (answer : Need-touch-all-requires) → (answer : Need-settle-requires) → (answer : Need-same-length) → (answer : Need-same-length-2) → (answer : Need-returns) →
       Lts.Closed claims Reads'4.Pre Reads'4.Post M
   spec = λ answer answer' answer'' answer'3 answer'4 answer'5 answer'6 answer'7 answer'8 answer'9. Lts.spec claims Reads'4.Pre Reads'4.Post answer answer' answer'' answer'3 answer'4
@@ -176,9 +176,9 @@ module _ {M : Type 1} where
         𝓜 = 𝓜;
         𝓖 = 𝓖;
         𝓡 = 𝓡;
-      } Code.env Symbol'6.name Symbol'6.routine Code.calls-samples·peek (Met'6.met 𝓤 H 𝓜 𝓖 𝓡)) (Reads'3.known record { M = M; 𝓤 = 𝓤; H = H; 𝓜 = 𝓜; 𝓖 = 𝓖; 𝓡 = 𝓡 } Code.env
-      Symbol'3.name Symbol'3.routine Code.calls-datasample-access·counts-of (Met'3.met 𝓤 H 𝓜 𝓖 𝓡)) (Reads.known record { M = M; 𝓤 = 𝓤; H = H; 𝓜 = 𝓜; 𝓖 = 𝓖; 𝓡 = 𝓡 } Code.env Symbol.name
-      Symbol.routine Code.calls-access·last-counts (Met.met 𝓤 H 𝓜 𝓖 𝓡)) (Reads''.known record { M = M; 𝓤 = 𝓤; H = H; 𝓜 = 𝓜; 𝓖 = 𝓖; 𝓡 = 𝓡 } Code.env Symbol''.name Symbol''.routine
+      } Code.env Symbol'6.name Symbol'6.routine Code.calls-samples·peek (Met'6.met 𝓤 H 𝓜 𝓖 𝓡)) (Reads.known record { M = M; 𝓤 = 𝓤; H = H; 𝓜 = 𝓜; 𝓖 = 𝓖; 𝓡 = 𝓡 } Code.env Symbol.name
+      Symbol.routine Code.calls-access·last-counts (Met.met 𝓤 H 𝓜 𝓖 𝓡)) (Reads'3.known record { M = M; 𝓤 = 𝓤; H = H; 𝓜 = 𝓜; 𝓖 = 𝓖; 𝓡 = 𝓡 } Code.env Symbol'3.name Symbol'3.routine
+      Code.calls-datasample-access·ranking-of (Met'3.met 𝓤 H 𝓜 𝓖 𝓡)) (Reads''.known record { M = M; 𝓤 = 𝓤; H = H; 𝓜 = 𝓜; 𝓖 = 𝓖; 𝓡 = 𝓡 } Code.env Symbol''.name Symbol''.routine
       Code.calls-datasample-access·collect (Met''.met 𝓤 H 𝓜 𝓖 𝓡)) (Reads'5.known record { M = M; 𝓤 = 𝓤; H = H; 𝓜 = 𝓜; 𝓖 = 𝓖; 𝓡 = 𝓡 } Code.env Symbol'4.name Symbol'4.routine
       Code.calls-datasample-access·touch-all (Met'4.met 𝓤 H 𝓜 𝓖 𝓡)) (Reads'.known record { M = M; 𝓤 = 𝓤; H = H; 𝓜 = 𝓜; 𝓖 = 𝓖; 𝓡 = 𝓡 } Code.env Symbol'.name Symbol'.routine
       Code.calls-access·settle (Met'.met 𝓤 H 𝓜 𝓖 𝓡))
