@@ -128,7 +128,7 @@ fn note(seen: &mut [u64; 32], row: usize, accessed: u64)
     }
 }
 
-// The info of a slot's sample goes to place p, which so many follow; what the list showed of its instance is noted.
+// The info of a slot's sample goes to place p of the list, which `follow` others come after; what the list showed of its instance is noted.
 pub fn show(
     ws: &[u64; 928],
     slot: usize,

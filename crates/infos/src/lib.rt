@@ -41,7 +41,7 @@ pub struct Ranking {
 }
 
 impl Ranking {
-    // The ranks of a place that so many samples follow, of a sample with these counts.
+    // The ranks of a place of the list, by how many places follow it and by the counts of its sample.
     pub fn of_place(self, follow: u64, counts: NotAliveGenerationCounts) -> Ranks
         ensures { λ r. ⌜ r ≡ ranksFrom self follow counts ⌝ }
     {
@@ -55,6 +55,7 @@ impl Ranking {
     }
 }
 
+// The info of a sample, from its instance's record and the ranks of its place.
 pub fn make_sample_info(s: Sample, imd: InstanceMetaData, ranks: Ranks) -> Info
     ensures { λ r. ⌜ r ≡ infoFrom s imd ranks ⌝ }
 {
