@@ -16,7 +16,7 @@ use Rattle.sampleinfo.specs.declared.NotAliveGenerationCounts.{NotAliveGenerati
 use Rattle.sampleinfo.specs.declared.InstanceMetaData.{InstanceMetaData}
 use Rattle.sampleinfo.specs.declared.Sample.{Sample}
 use Rattle.sampleinfo.specs.declared.Info.{Info}
-use Rattle.model.specs.Pairs.{Pair, firstBad, repeats}
+use Rattle.model.specs.Pairs.{Pair, firstBad}
 use Rattle.sampleinfo.specs.declared.Ranks.{Ranks}
 use Rattle.pairs.specs.Flat.{pairsOf, pairAt, wholePairs}
 use Rattle.pairs.specs.FlatLaws.{length-pairs, noPair, pair-at}

@@ -7,7 +7,7 @@ use native.Mathlib.Nat.{sub-zero}
 use native.Mathlib.Numerals.{add-one}
 use native.Mathlib.Omega.{arith}
 use borrow.Author.Tests.{lt-ltb, eq-eqb, ne-eqb, eqb-true, eqb-false, ltb-true, ltb-false}
-use lib.ListN.{length, getD, set, take, drop, replicate, length-set, length-append, length-take, length-drop}
+use lib.ListN.{length, getD, set, take, replicate, length-set, length-append, length-take, length-drop}
 use lib.Seq.{getD-set-same, getD-set-other}
 use lib.Dec.{ltb, eqb}
 use Rattle.lists.specs.Every.{Every, every-map}

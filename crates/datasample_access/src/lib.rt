@@ -1,6 +1,5 @@
 // datasample_cache.rs: read_by_keys and take_by_keys, over lent memory.
 ghost use mathlib.Core.Path.{_≡_};
-ghost use lib.ListN.{length};
 ghost use Rattle.store.specs.Store.{Store};
 ghost use Rattle.model.specs.Model.{Model};
 ghost use Rattle.index.specs.Memory.{Tied};

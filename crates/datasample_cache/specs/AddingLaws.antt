@@ -14,15 +14,13 @@ use Rattle.sampleinfo.specs.declared.BodyMade.the-variants as made
 use Rattle.sampleinfo.specs.declared.InstanceState.{InstanceState}
 use Rattle.sampleinfo.specs.declared.NotAliveGenerationCounts.{NotAliveGenerationCounts}
 use Rattle.model.specs.Model.{Arrival, wellFormed}
-use Rattle.store.specs.Store.{Store, Wanted, Said, adding, declined}
+use Rattle.store.specs.Store.{Store, Wanted, Said, adding}
 use Rattle.store.specs.Store as S
-use Rattle.index.specs.Memory.{Tied, headOf, shown, indexOf}
+use Rattle.index.specs.Memory.{Tied, shown}
 use Rattle.index.specs.declared.Cache.{Cache}
 use Rattle.plan.specs.Plan.{wanted, Made, answerOf}
 use Rattle.plan.specs.declared.Outcome.{Outcome}
-use Rattle.plan.specs.declared.Answer.{Answer}
 use Rattle.plan.specs.declared.Answer.the-variants as answer
-use Rattle.refine.specs.Answers.{wantedOf}
 use Rattle.datasample_cache.specs.declared.Decision.{Decision}
 use Rattle.datasample_cache.specs.Adding.{arrival, deciding, drawnOf, drawnNone, drawnBy, Decided, Decides}
 

@@ -5,7 +5,6 @@ ghost use Rattle.plan.specs.Plan.{wanted};
 ghost use Rattle.index.specs.Memory.{Tied};
 ghost use mathlib.Core.List.{List};
 ghost use Prim.Native.Nat.{ℕ, _*_, _<_};
-ghost use lib.ListN.{length};
 ghost use Rattle.sampleinfo.specs.Samples.{unread};
 ghost use Rattle.sampleinfo.specs.Formed.{bodyFor};
 ghost use Rattle.model.specs.Model.{Model, Call, step, countsKept, countsNone};

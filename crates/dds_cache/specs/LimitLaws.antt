@@ -6,7 +6,7 @@ use mathlib.Core.Option.{Option, some, none}
 use Prim.Native.Nat.{ℕ, _-_, _%_, _≤_, _<_, max, min}
 use native.Mathlib.Omega.{arith}
 use borrow.Author.Tests.{le-leb, lt-leb, eq-eqb, ne-eqb}
-use lib.Dec.{T, ltb, leb, eqb, leb→le}
+use lib.Dec.{T, leb, leb→le}
 use lib.ListN.{length}
 use Rattle.sampleinfo.specs.Formed as formed
 use Rattle.model.specs.Topic.{Entry, Limits, places, inBounds, limitsFit, raised, deeper, wider, seqFits, mayFor, removal, countBelow, collectEvery}
@@ -15,7 +15,7 @@ use Rattle.dds_cache.specs.declared.History.the-variants.{KeepAll, KeepL
 use Rattle.dds_cache.specs.declared.KeepLimits.{KeepLimits}
 use Rattle.dds_cache.specs.declared.Limited.{Limited}
 use Rattle.dds_cache.specs.declared.Limited.the-variants as limited
-use Rattle.dds_cache.specs.Header.{depthOf, limitsOf, given, newLimits, limitedOf, limitedNumber, limitsNumber, Limiting, dropsFor}
+use Rattle.dds_cache.specs.Header.{depthOf, limitsOf, given, newLimits, limitedOf, limitedNumber, Limiting, dropsFor}
 
 pub bounds-none : (n : ℕ) → n ≡ 0 → false ≡ inBounds n
 bounds-none n e = rw (lt-leb 1 n (omega arith))

@@ -9,8 +9,8 @@
 //      416    256  KEYS    the key of the sample in each slot; 0 in a free one
 //      672    256  OWNERS  the row of its instance; 0 in a free one
 ghost use mathlib.Core.Path.{_≡_};
-ghost use Prim.Native.Nat.{_+_, _*_, _%_, _<_, _≤_, min};
-ghost use lib.ListN.{getD, length};
+ghost use Prim.Native.Nat.{_+_, _*_, _%_, _<_, min};
+ghost use lib.ListN.{getD};
 ghost use Rattle.store.specs.Store.{Store, placeOf};
 ghost use Rattle.index.specs.Words.{namesIn, metasIn, cellsIn, keysIn, ownersIn, putName, putCell, putKey, putOwner, putSlot, metaAt, putMeta, putMetaWord};
 ghost use Rattle.index.specs.Memory.{Held};

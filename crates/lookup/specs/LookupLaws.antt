@@ -1,24 +1,24 @@
 -- The searches as the code meets them: the answer on the left.
 use mathlib.Core.Path.{_≡_, refl, sym, ap, _∙_}
 use mathlib.Core.Bool.{Bool, true, false, cond, not, _&&_}
-use mathlib.Core.List.{List, [], _∷_, _++_, map}
+use mathlib.Core.List.{List, _∷_, map}
 use mathlib.Core.Option.{Option, some, none}
-use Prim.Native.Nat.{ℕ, zero, suc, _+_, _-_, _*_, _≤_, _<_, min}
+use Prim.Native.Nat.{ℕ, suc, _+_, _-_, _*_, _≤_, _<_, min}
 use native.Mathlib.Nat.{mul-le-mul-left, le-of-lt}
 use native.Mathlib.Numerals.{add-one}
 use native.Mathlib.Omega.{arith}
-use borrow.Author.Tests.{lt-ltb, le-ltb, eq-eqb, ne-eqb, eqb-true}
+use borrow.Author.Tests.{lt-ltb, le-ltb, eq-eqb, ne-eqb}
 use lib.ListN.{length, getD, drop, replicate, length-map, List·getD-map, drop-of-length-le}
 use lib.Seq.{drop-cons}
 use lib.Dec.{ltb, eqb}
 use mir.Val.{Fits}
 use mir.Syntax.{w64}
-use Rattle.lists.specs.Blocks.{filled, filled-get-or, get-map}
+use Rattle.lists.specs.Blocks.{filled-get-or, get-map}
 use Rattle.slots.specs.Bits.{bitsOf, freeAt}
 use Rattle.store.specs.Store.{Inst, Store, placeOf, noInst, instAt, least, nextName, cellKeyed, slotKeyed, slotOfKey, slotNamed, laterSlot, greatestFrom, latestSlot}
 use Rattle.store.specs.Fit.{Fit, Deep, depthOf}
 use Rattle.index.specs.Words.{region}
-use Rattle.index.specs.Memory.{nameOf, cellsOf, indexOf, View, shown, headOf, Tied, Held}
+use Rattle.index.specs.Memory.{nameOf, cellsOf, View, Tied, Held}
 use Rattle.index.specs.MemoryLaws.{few32, name-is, cells-are, keys-are, owners-are, even-cells, cells-fit, deep-room, held-of}
 use Rattle.index.specs.declared.Cache.{Cache}
 use Rattle.lookup.specs.Lookup.{nextOf, leastOf, nearerOf, pairOf, Windowed, Slotted}

@@ -9,7 +9,7 @@ use native.Mathlib.Omega.{arith}
 use lib.ListN.{length, drop, length-drop}
 use lib.Dec.{eqb, ltb}
 use lib.IntN.{pos, _-ℤ_}
-use borrow.Author.Tests.{eqb-true, ltb-true, ltb-false, lt-ltb, le-ltb}
+use borrow.Author.Tests.{eqb-true, ltb-true, ltb-false, le-ltb}
 use Rattle.sampleinfo.specs.Counts.{total, accessedAt}
 use Rattle.sampleinfo.specs.Lifecycle.{countsOf, accessedOf}
 use Rattle.sampleinfo.specs.Samples.{totalOf}

@@ -1,20 +1,20 @@
 -- A list is refused exactly for a pair not live, a pair twice, or too short a buffer; else exactly the samples that it names are marked or leave.
 use mathlib.Core.Path.{_≡_, refl, sym, _∙_, ap, subst}
 use mathlib.Core.Logic.{_↔_, _⊎_, inl, inr}
-use mathlib.Core.Bool.{Bool, true, false, _&&_, not, and-eq-true-iff, true≢false}
+use mathlib.Core.Bool.{Bool, true, false, not, and-eq-true-iff, true≢false}
 use mathlib.Core.List.{List, [], _∷_, map}
 use mathlib.Core.Option.{Option, some, none}
 use Prim.Native.Nat.{ℕ, _≤_, _<_}
 use native.Mathlib.Omega.{arith}
 use lib.ListN.{length, length-append}
 use lib.Dec.{eqb, leb}
-use borrow.Author.Tests.{eqb-true, eq-eqb, leb-true, leb-false, not-true}
+use borrow.Author.Tests.{eqb-true, eq-eqb, leb-true, leb-false}
 use Rattle.sampleinfo.specs.Counts.{accessedAt}
 use Rattle.sampleinfo.specs.Lifecycle.{stateOf, countsOf, accessedOf}
 use Rattle.sampleinfo.specs.Samples.{totalOf}
 use Rattle.sampleinfo.specs.declared.Info.{Info}
 use Rattle.sampleinfo.specs.declared.Ranks.{Ranks}
-use Rattle.model.specs.Pairs.{Pair, repeats}
+use Rattle.model.specs.Pairs.{Pair}
 use Rattle.model.specs.Views.{greater, viewed}
 use Rattle.model.specs.PairLaws.{among-in, repeats-distinct}
 use Rattle.model.specs.Model.{Model, Instance, Live, Place, gone, held, Step, refused, infos, list, refuse, find, liveIn, keyed, named, present, asRead, isLive, fine, infoAt, infosOf, infosFor, touch, listedIn, shown, accessed, listed, access, accessing, step, Edition, ranksAt}

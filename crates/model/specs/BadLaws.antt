@@ -9,7 +9,7 @@ use lib.ListN.{length}
 use native.Mathlib.Decide.{ℕ-discrete}
 use native.Mathlib.Omega.{arith}
 use borrow.Author.Tests.{ne-eqb, not-true}
-use Rattle.model.specs.Pairs.{Pair, samePair, among, repeats, Fault, notLive, twice, Bad, badFrom, firstBad, noneBad, orLater}
+use Rattle.model.specs.Pairs.{Pair, samePair, among, repeats, notLive, twice, Bad, badFrom, firstBad, noneBad, orLater}
 use Rattle.model.specs.Model.{Model, isLive, fine}
 
 unfoldable pub allOf : (Pair → Bool) → List Pair → Bool

@@ -4,7 +4,6 @@ ghost use mathlib.Core.Bool.{cond, _&&_};
 ghost use Prim.Native.Nat.{ℕ, _+_, _*_, _<_, _≤_};
 ghost use lib.ListN.{getD};
 ghost use lib.Dec.{ltb, leb, eqb};
-ghost use Rattle.sampleinfo.specs.Lifecycle.{countsOf};
 ghost use Rattle.store.specs.Store.{Store, Inst, adding, keying, placing, freshInst};
 ghost use Rattle.index.specs.Words.{cellsIn};
 ghost use Rattle.index.specs.Memory.{Tied, Held};

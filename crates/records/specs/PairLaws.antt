@@ -12,7 +12,7 @@ use lib.ListN.{length, getD, take, drop, set}
 use lib.Seq.{drop-cons, take-suc, take-suc-set, set-at, length-take-le, take-all, take-length, take-append-seam}
 use Rattle.records.specs.declared.Op.{Op}
 use Rattle.records.specs.declared.Op.the-variants as op
-use Rattle.records.specs.Format.{byteAt, numberAt, bytesAt, tooLong, instanceIn, masksAt, setUpSize, setUpIn, addSize, arrivalIn, noWritersSize, chooseSize, chooseWithinSize, countIn, pairsAt, pairSize, listSize, nextKeySize, sizedOp, opAt, opIn, countOf, pairsFrom, listCount}
+use Rattle.records.specs.Format.{byteAt, numberAt, bytesAt, tooLong, instanceIn, masksAt, setUpSize, setUpIn, addSize, arrivalIn, noWritersSize, chooseSize, chooseWithinSize, countIn, pairsAt, pairSize, listSize, nextKeySize, sizedOp, opAt, countOf, pairsFrom, listCount}
 use Rattle.records.specs.Words.{listWords, wordsOf, wordsIn, laidIn}
 
 -- ---- the writer

@@ -2,9 +2,8 @@
 use mathlib.Core.Path.{_≡_, refl, ap, _∙_}
 use mathlib.Core.Bool.{true, _&&_}
 use mathlib.Core.List.{List, [], _∷_, _++_}
-use Prim.Native.Nat.{ℕ}
 use lib.ListN.{length-map}
-use Rattle.model.specs.Pairs.{Pair, badFrom, firstBad, repeats}
+use Rattle.model.specs.Pairs.{Pair, badFrom, firstBad}
 use Rattle.model.specs.Model.{Model, isLive, lastTotal, infosOf, infosFor, fine, Edition, byTheRust, ranksAt}
 use Rattle.model.specs.BadLaws.{allLive}
 use Rattle.store.specs.Store.{placeOf, instAt, slotNamed, isHeld}

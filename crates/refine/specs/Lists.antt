@@ -1,9 +1,9 @@
 -- What reading and taking a list of pairs does to the store and to the table, slot by slot.
-use mathlib.Core.Bool.{Bool, true, _&&_, cond}
+use mathlib.Core.Bool.{cond}
 use mathlib.Core.List.{List, [], _∷_, map}
 use Prim.Native.Nat.{ℕ, zero, suc, max}
 use lib.ListN.{length, getD, set}
-use lib.Dec.{eqb, ltb}
+use lib.Dec.{eqb}
 use Rattle.sampleinfo.specs.Counts.{total, accessedAt}
 use Rattle.sampleinfo.specs.Lifecycle.{stateOf, countsOf, accessedOf}
 use Rattle.sampleinfo.specs.Samples.{emptySample, markedRead, sampleStateOf, totalOf}

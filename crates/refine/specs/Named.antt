@@ -1,6 +1,6 @@
 -- The slot that a pair names in the store of a model, and what is in it.
 use mathlib.Core.Path.{_≡_, refl, sym, ap, _∙_, subst}
-use mathlib.Core.Bool.{Bool, true, false, _&&_, not, cond}
+use mathlib.Core.Bool.{Bool, false, _&&_, not, cond}
 use mathlib.Core.List.{List, [], _∷_, _++_, map}
 use mathlib.Core.Option.{Option, some, none}
 use Prim.Native.Nat.{ℕ, zero, suc, _+_, _≤_, _<_}
@@ -9,7 +9,6 @@ use borrow.Author.Tests.{eq-eqb, ne-eqb, eqb-true, eqb-false, lt-ltb, le-ltb}
 use lib.ListN.{length, getD, drop, length-map}
 use lib.Dec.{eqb, ltb}
 use Rattle.lists.specs.Every.{Every, every-append, every-map}
-use Rattle.lists.specs.Count.{bit}
 use Rattle.slots.specs.Bits.{freeAt}
 use Rattle.sampleinfo.specs.Samples.{emptySample}
 use Rattle.model.specs.Pairs.{Pair}

@@ -1,6 +1,6 @@
 -- Reading and taking a list: what each instance gets as its last accessed total, and the whole of both calls on the store and the table.
 use mathlib.Core.Path.{_≡_, refl, sym, ap, _∙_}
-use mathlib.Core.Bool.{Bool, true, false, _&&_, _||_, not, cond}
+use mathlib.Core.Bool.{Bool, true, false, _&&_, _||_, cond}
 use mathlib.Core.List.{List, [], _∷_, map}
 use mathlib.Core.Option.{Option, some, none}
 use Prim.Native.Nat.{ℕ, zero, suc, _≤_, _<_, max}
@@ -13,7 +13,7 @@ use lib.Dec.{eqb, ltb}
 use Rattle.lists.specs.Blocks.{putAt, put-set, get-put, length-put-in}
 use Rattle.sampleinfo.specs.Counts.{accessedAt}
 use Rattle.sampleinfo.specs.Samples.{emptySample, totalOf}
-use Rattle.model.specs.Pairs.{Pair, among, repeats}
+use Rattle.model.specs.Pairs.{Pair, among}
 use Rattle.model.specs.Views.{greater}
 use Rattle.model.specs.Model.{Model, Instance, Live, find, liveIn, lives, count, keyed, isLive, fine, listedIn, shown, listed, access}
 use Rattle.model.specs.BadLaws.{allLive, fine-live}

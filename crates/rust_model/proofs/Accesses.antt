@@ -1,14 +1,14 @@
 -- Reading and taking on states that are alike: the same infos, and the states stay alike.
 use mathlib.Core.Path.{_≡_, refl, sym, ap, _∙_, subst}
 use mathlib.Core.Logic.{inl, inr}
-use mathlib.Core.Bool.{Bool, true, false, not, cond, true≢false}
+use mathlib.Core.Bool.{Bool, true, false, cond, true≢false}
 use mathlib.Core.List.{List, [], _∷_, _++_, map}
 use mathlib.Core.Option.{Option, some, none}
 use Prim.Native.Nat.{ℕ, _≤_}
 use native.Mathlib.Omega.{arith}
 use lib.ListN.{length, length-map}
 use lib.Dec.{eqb}
-use borrow.Author.Tests.{eqb-true, eq-eqb, not-true}
+use borrow.Author.Tests.{eqb-true, eq-eqb}
 use Rattle.sampleinfo.specs.Counts.{total}
 use Rattle.sampleinfo.specs.Lifecycle.{accessedOf}
 use Rattle.sampleinfo.specs.Samples.{sampleStateOf, totalOf}
@@ -17,7 +17,7 @@ use Rattle.sampleinfo.specs.declared.ViewState.{ViewState}
 use Rattle.sampleinfo.specs.declared.InstanceState.{InstanceState}
 use Rattle.sampleinfo.specs.declared.Info.{Info}
 use Rattle.sampleinfo.specs.declared.Sample.{Sample}
-use Rattle.model.specs.Pairs.{Pair, repeats}
+use Rattle.model.specs.Pairs.{Pair}
 use Rattle.model.specs.PairLaws.{pair-is, repeats-distinct}
 use Rattle.model.specs.Views.{rankFrom, viewed}
 use Rattle.model.specs.Model.{Model, Live, Instance, find, nextName, liveIn, lives, keyed, named, present, isLive, fine, latest, latestTotal, lastTotal, viewIn, infoOf, infoAt, infosOf, infosFor, shown, touch, listed, access, Edition, byTheRust, ranksAt}

@@ -10,7 +10,7 @@ use Rattle.sampleinfo.specs.declared.Body.the-variants.{Value, Dispose}
 use Rattle.sampleinfo.specs.declared.BodyMade.{BodyMade}
 use Rattle.sampleinfo.specs.declared.BodyMade.the-variants as made
 use Rattle.sampleinfo.specs.States.{bodyOf, bodyNumber, kindNumber}
-use Rattle.sampleinfo.specs.Formed.{seqFits, kindFits, formed, bodyFor, arrivedBody}
+use Rattle.sampleinfo.specs.Formed.{seqFits, formed, bodyFor, arrivedBody}
 
 -- ---- the range
 

@@ -1,6 +1,6 @@
 -- The cache on numbers alone: what the header and the index say, and what each call makes of it. A slot's record is not here.
-use mathlib.Core.Bool.{Bool, true, false, _&&_, not, cond}
-use mathlib.Core.List.{List, [], _∷_, _++_, map}
+use mathlib.Core.Bool.{Bool, _&&_, not, cond}
+use mathlib.Core.List.{List, [], _∷_, _++_}
 use mathlib.Core.Option.{Option, some, none}
 use Prim.Native.Nat.{ℕ, zero, suc, _+_}
 use lib.ListN.{length, getD, set, drop, replicate}
@@ -12,7 +12,7 @@ use Rattle.keys.specs.declared.Last.{Last}
 use Rattle.keys.specs.declared.Last.the-variants as last
 use Rattle.keys.specs.declared.Issued.{Issued}
 use Rattle.keys.specs.declared.Issued.the-variants as issued
-use Rattle.sampleinfo.specs.Lifecycle.{meta, stateOf, countsOf, accessedOf, newInstance, lifecycleOf, noWritersOf}
+use Rattle.sampleinfo.specs.Lifecycle.{meta, stateOf, countsOf, newInstance, lifecycleOf, noWritersOf}
 use Rattle.sampleinfo.specs.declared.InstanceState.{InstanceState}
 use Rattle.sampleinfo.specs.declared.InstanceState.the-variants.{Alive}
 use Rattle.sampleinfo.specs.declared.NotAliveGenerationCounts.{NotAliveGenerationCounts}
