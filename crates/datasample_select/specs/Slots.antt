@@ -1,6 +1,6 @@
 -- The choices of a good cache are those found by going through its slots, put in order one after the other.
 use mathlib.Core.Path.{_≡_, refl, sym, ap, _∙_}
-use mathlib.Core.Bool.{Bool, true, false, _&&_, not, cond}
+use mathlib.Core.Bool.{Bool, true, false, _&&_, cond}
 use mathlib.Core.List.{List, [], _∷_, _++_, map}
 use mathlib.Core.Option.{Option, some, none}
 use Prim.Native.Nat.{ℕ, zero, suc, _+_, _≤_, _<_}
@@ -9,19 +9,18 @@ use native.Mathlib.Omega.{arith}
 use borrow.Author.Tests.{eqb-true, eqb-false}
 use lib.ListN.{length, getD, List·getD-map}
 use lib.Dec.{eqb}
-use Rattle.lists.specs.Every.{Every, every-append, every-map}
+use Rattle.lists.specs.Every.{Every, every-append}
 use Rattle.lists.specs.Count.{bit}
 use Rattle.lists.specs.Sort.{Distinct}
-use Rattle.slots.specs.Bits.{freeAt}
-use Rattle.sampleinfo.specs.Samples.{emptySample}
 use Rattle.readcondition.specs.declared.ReadCondition.{ReadCondition}
-use Rattle.model.specs.Pairs.{Hit, insert, sorted}
-use Rattle.model.specs.Model.{Model, Instance, Live, find, liveIn, lives, count, chosen, hitOf, hitsIn, hits, one, scope}
+use Rattle.model.specs.Pairs.{Hit, sorted}
+use Rattle.model.specs.Model.{Model, Instance, Live, find, liveIn, count, chosen, hitOf, hitsIn, hits, one, scope}
+use Rattle.model.specs.Demand3.{timesHeld, hasKey}
 use Rattle.pairs.specs.OrderLaws.{OtherKey}
-use Rattle.store.specs.Store.{Inst, Store, noInst, instAt}
+use Rattle.store.specs.Store.{noInst, instAt}
 use Rattle.store.specs.Choosing.{inScope, chosenIn, hitIn, hitAt, hitsFrom}
 use Rattle.refine.specs.Layout.{instOf, Entry, entry, entriesFrom, entriesOf, lookUp, freeOf, keyOf, ownerOf, sampleOf, storeOf, tableOf}
-use Rattle.refine.specs.Good.{Good, hasKey, timesHeld}
+use Rattle.refine.specs.Good.{Good}
 use Rattle.refine.specs.Tables.{split, livesIn}
 use Rattle.refine.specs.Entries.{lives-of, insts}
 use Rattle.refine.specs.FitOf.{nobody}

@@ -32,11 +32,11 @@ last-on : (o : Last) (ks : List ℕ) (k : ℕ) → lastKey o (ks ++ k ∷ []) �
 last-on o [] k = refl
 last-on o (j ∷ js) k = last-on (last.Key j) js k
 
-at-most-below : (o : Last) (j k : ℕ) → Later o k → AtMost o j → j < k
+pub at-most-below : (o : Last) (j k : ℕ) → Later o k → AtMost o j → j < k
 at-most-below last.Never j k p h = absurd h
 at-most-below (last.Key l) j k p h = omega arith
 
-at-most-later : (o : Last) (l k : ℕ) → Later o l → AtMost o k → AtMost (last.Key l) k
+pub at-most-later : (o : Last) (l k : ℕ) → Later o l → AtMost o k → AtMost (last.Key l) k
 at-most-later last.Never l k p h = absurd h
 at-most-later (last.Key j) l k p h = omega arith
 

@@ -23,14 +23,14 @@ times-put n j (i ∷ is) = split (eqb (i .name) (j .name))
     (λ e. rw (put-here j i is e, find-here (j .name) i is e, eqb-true (i .name) (j .name) e) (split (eqb (j .name) n) (λ q. rw q (omega arith)) (λ q. rw q (omega arith))))
     (λ e. rw (put-there j i is e, find-there (j .name) i is e) (omega (arith, times-put n j is)))
 
-pub times-none : (n : ℕ) (is : List Instance) → find n is ≡ none → timesHeld n is ≡ 0
+times-none : (n : ℕ) (is : List Instance) → find n is ≡ none → timesHeld n is ≡ 0
 unfolding find timesHeld
 times-none n [] h = refl
 times-none n (i ∷ is) h = split (eqb (i .name) n)
     (λ e. absurd (none-some (find n (i ∷ is)) h (find-here n i is e)))
     (λ e. rw e (omega (arith, times-none n is (sym (find-there n i is e) ∙ h))))
 
-times-put-once : (n : ℕ) (j : Instance) (is : List Instance) → timesHeld n is ≤ 1 → timesHeld n (put j is) ≤ 1
+pub times-put-once : (n : ℕ) (j : Instance) (is : List Instance) → timesHeld n is ≤ 1 → timesHeld n (put j is) ≤ 1
 times-put-once n j is h = rw times-put (split (eqb (j .name) n)
     (λ e. rw e (go (find (j .name) is) refl e))
     (λ e. rw e (omega arith)))
@@ -39,7 +39,7 @@ times-put-once n j is h = rw times-put (split (eqb (j .name) n)
     go none f e = rw f (omega (arith, times-none n is (rw (eqb-true (j .name) n e) at f)))
     go (some i) f e = rw f (omega arith)
 
-times-listed : (n : ℕ) (t : Bool) (ps : List Pair) (is : List Instance) → timesHeld n (map (listed t ps) is) ≡ timesHeld n is
+pub times-listed : (n : ℕ) (t : Bool) (ps : List Pair) (is : List Instance) → timesHeld n (map (listed t ps) is) ≡ timesHeld n is
 unfolding timesHeld
 times-listed n t ps [] = refl
 times-listed n t ps (i ∷ is) = omega (arith, times-listed n t ps is)

@@ -24,7 +24,7 @@ use Rattle.model.proofs.Counting.{bit, Pushable, new, count-append, cou
 
 -- ---- the lowest free slot
 -- every slot from k up to the answer is in use, and the answer is free if it is one of the n
-lowest-used : (n k : ℕ) (ss : List Live) (j : ℕ) → k ≤ j → j < lowestFrom n k ss → 0 < count (inSlot j) ss
+pub lowest-used : (n k : ℕ) (ss : List Live) (j : ℕ) → k ≤ j → j < lowestFrom n k ss → 0 < count (inSlot j) ss
 unfolding lowestFrom
 lowest-used zero k ss j p q = absurd (omega arith)
 lowest-used (suc n) k ss j p q = split (eqb (count (inSlot k) ss) 0)
@@ -39,7 +39,7 @@ lowest-used (suc n) k ss j p q = split (eqb (count (inSlot k) ss) 0)
     past : (k j : ℕ) → k ≤ j → (k ≡ j → ⊥) → k + 1 ≤ j
     past k j p h = omega arith
 
-lowest-free : (n k : ℕ) (ss : List Live) → lowestFrom n k ss < k + n → count (inSlot (lowestFrom n k ss)) ss ≡ 0
+pub lowest-free : (n k : ℕ) (ss : List Live) → lowestFrom n k ss < k + n → count (inSlot (lowestFrom n k ss)) ss ≡ 0
 unfolding lowestFrom
 lowest-free zero k ss h = absurd (omega arith)
 lowest-free (suc n) k ss h = split (eqb (count (inSlot k) ss) 0)
@@ -47,10 +47,10 @@ lowest-free (suc n) k ss h = split (eqb (count (inSlot k) ss) 0)
     (λ e. let r : lowestFrom n (k + 1) ss < k + suc n = rw e at h in rw e (lowest-free n (k + 1) ss (omega arith)))
 
 -- ---- n slots that are all in use need n lives
-abbrev below : ℕ → Live → Bool
+abbrev pub below : ℕ → Live → Bool
 below n s = ltb (s .slot) n
 
-below-suc : (n x : ℕ) → bit (ltb x (suc n)) ≡ bit (ltb x n) + bit (eqb x n)
+pub below-suc : (n x : ℕ) → bit (ltb x (suc n)) ≡ bit (ltb x n) + bit (eqb x n)
 below-suc n x = split (ltb x n)
     (λ e. rw (e, lt-ltb x (suc n) (omega (arith, ltb-true x n e)), ne-eqb x n (λ q. less x n (ltb-true x n e) q)))
     (λ e. split (eqb x n)
@@ -63,16 +63,16 @@ below-suc n x = split (ltb x n)
     more : (x n : ℕ) → n ≤ x → (x ≡ n → ⊥) → suc n ≤ x
     more x n p q = omega arith
 
-count-below : (n : ℕ) (ss : List Live) → count (below (suc n)) ss ≡ count (below n) ss + count (inSlot n) ss
+pub count-below : (n : ℕ) (ss : List Live) → count (below (suc n)) ss ≡ count (below n) ss + count (inSlot n) ss
 unfolding count
 count-below n [] = omega arith
 count-below n (s ∷ ss) = omega (arith, below-suc n (s .slot), count-below n ss)
 
-all-used : (n : ℕ) (ss : List Live) → ((j : ℕ) → j < n → 0 < count (inSlot j) ss) → n ≤ count (below n) ss
+pub all-used : (n : ℕ) (ss : List Live) → ((j : ℕ) → j < n → 0 < count (inSlot j) ss) → n ≤ count (below n) ss
 all-used zero ss h = omega arith
 all-used (suc n) ss h = omega (arith, count-below n ss, h n (omega arith), all-used n ss (λ j p. h j (omega arith)))
 
-lowest-below : (n : ℕ) (ss : List Live) → length ss < n → lowestFrom n 0 ss < n
+pub lowest-below : (n : ℕ) (ss : List Live) → length ss < n → lowestFrom n 0 ss < n
 lowest-below n ss h = split (ltb (lowestFrom n 0 ss) n)
     (λ e. ltb-true (lowestFrom n 0 ss) n e)
     (λ e. absurd (full (ltb-false (lowestFrom n 0 ss) n e)))
@@ -88,7 +88,7 @@ abbrev cap : ℕ → ℕ
 cap k = bit (ltb k 256)
 
 -- a key that was issued
-abbrev reached : Last → ℕ → Bool
+abbrev pub reached : Last → ℕ → Bool
 reached last.Never k = false
 reached (last.Key l) k = leb k l
 
@@ -112,7 +112,7 @@ every-listed : (d : ℕ) (t : Bool) (ps : List Pair) (is : List Instance) → Ev
 every-listed d t ps [] h = tt
 every-listed d t ps (i ∷ is) h = (rw length-map (h .0), every-listed d t ps is (h .1))
 
-length-put : (j : Instance) (is : List Instance) → length (put j is) ≡ newcomer (find (j .name) is) + length is
+pub length-put : (j : Instance) (is : List Instance) → length (put j is) ≡ newcomer (find (j .name) is) + length is
 unfolding put find
 length-put j [] = refl
 length-put j (i ∷ is) = split (eqb (i .name) (j .name))
@@ -124,7 +124,7 @@ unfolding lives count
 count-sized p d [] h = omega arith
 count-sized p d (i ∷ is) h = rw count-append (omega (arith, count-places p (i .places), h .0, count-sized p d is (h .1)))
 
-length-push : (k : Option ℕ) (d : ℕ) (ps : List Place) (x : Place) → k ≡ some d → 0 < length ps → length (push k ps x) ≡ length ps
+pub length-push : (k : Option ℕ) (d : ℕ) (ps : List Place) (x : Place) → k ≡ some d → 0 < length ps → length (push k ps x) ≡ length ps
 unfolding push
 length-push k d [] x e h = absurd (omega arith)
 length-push k d (q ∷ qs) x e h = rw (e, length-append qs (x ∷ [])) (omega arith)
@@ -246,11 +246,11 @@ bit-one : (b : Bool) → bit b ≤ 1
 bit-one true = omega arith
 bit-one false = omega arith
 
-not-reached : (o : Last) (k : ℕ) → Later o k → bit (reached o k) ≡ 0
+pub not-reached : (o : Last) (k : ℕ) → Later o k → bit (reached o k) ≡ 0
 not-reached last.Never k h = refl
 not-reached (last.Key l) k h = rw (lt-leb k l h)
 
-reached-on : (o : Last) (k j : ℕ) → Later o k → bit (reached o j) ≤ bit (leb j k)
+pub reached-on : (o : Last) (k j : ℕ) → Later o k → bit (reached o j) ≤ bit (leb j k)
 reached-on last.Never k j h = omega arith
 reached-on (last.Key l) k j h = split (leb j l)
     (λ e. rw (e, le-leb j k (omega (arith, leb-true j l e))) (omega arith))

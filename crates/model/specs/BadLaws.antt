@@ -21,19 +21,19 @@ allLive m [] = true
 allLive m (p ∷ ps) = isLive m p && allLive m ps
 
 -- one of ps is among the pairs before them
-unfoldable meets : List Pair → List Pair → Bool
+unfoldable pub meets : List Pair → List Pair → Bool
 unfolding among
 meets before [] = false
 meets before (p ∷ ps) = among p before || meets before ps
 
-eqb-sym : (m n : ℕ) → eqb m n ≡ eqb n m
+pub eqb-sym : (m n : ℕ) → eqb m n ≡ eqb n m
 eqb-sym m n = go (ℕ-discrete m n)
   where
     go : Dec (m ≡ n) → eqb m n ≡ eqb n m
     go (yes e) = rw e
     go (no e) = ne-eqb m n e ∙ sym (ne-eqb n m (λ q. e (sym q)))
 
-same-sym : (p q : Pair) → samePair p q ≡ samePair q p
+pub same-sym : (p q : Pair) → samePair p q ≡ samePair q p
 same-sym p q = rw (eqb-sym (p .key) (q .key), eqb-sym (p .name) (q .name))
 
 among-more : (q p : Pair) (l : List Pair) → among q (l ++ p ∷ []) ≡ among q l || samePair q p

@@ -129,13 +129,13 @@ earlier-before a b = (there, back)
 pub not-earlier : (a b : Hit) → earlier a b ≡ false → ¬ Before a b
 not-earlier a b e h = true≢false (sym (earlier-before a b .1 h) ∙ e)
 
-before-not : (a b : Hit) → Before a b → Before b a → ⊥
+pub before-not : (a b : Hit) → Before a b → Before b a → ⊥
 before-not a b (inl h) (inl k) = omega arith
 before-not a b (inl h) (inr k) = omega (arith, k .0)
 before-not a b (inr h) (inl k) = omega (arith, h .0)
 before-not a b (inr h) (inr k) = omega (arith, h .1, k .1)
 
-before-trans : (a b c : Hit) → Before a b → Before b c → Before a c
+pub before-trans : (a b c : Hit) → Before a b → Before b c → Before a c
 before-trans a b c (inl h) (inl k) = inl (omega arith)
 before-trans a b c (inl h) (inr k) = inl (omega (arith, k .0))
 before-trans a b c (inr h) (inl k) = inl (omega (arith, h .0))

@@ -16,15 +16,15 @@ use Rattle.readcondition.specs.declared.ReadCondition.{ReadCondition}
 use Rattle.readcondition.specs.Masks.{condition, has, chosenBy, isValid, conditionNumber, validNumber, anyCondition, notRead}
 
 -- a full mask has every bit, and a mask of 0 none
-any-sample : (s : SampleState) → has 3 (sampleBit s) ≡ true
+pub any-sample : (s : SampleState) → has 3 (sampleBit s) ≡ true
 any-sample Read = refl
 any-sample NotRead = refl
 
-any-view : (v : ViewState) → has 3 (viewBit v) ≡ true
+pub any-view : (v : ViewState) → has 3 (viewBit v) ≡ true
 any-view New = refl
 any-view NotNew = refl
 
-any-instance : (i : InstanceState) → has 7 (instanceBit i) ≡ true
+pub any-instance : (i : InstanceState) → has 7 (instanceBit i) ≡ true
 any-instance Alive = refl
 any-instance NotAliveDisposed = refl
 any-instance NotAliveNoWriters = refl

@@ -1,6 +1,6 @@
 -- What an add that is accepted has passed, and the key and the slot that it is given.
 use mathlib.Core.Path.{_≡_, refl, sym, ap, _∙_, subst}
-use mathlib.Core.Bool.{Bool, true, false, not, _&&_, cond, true≢false}
+use mathlib.Core.Bool.{Bool, true, false, _&&_, cond}
 use mathlib.Core.List.{List, [], _∷_}
 use mathlib.Core.Option.{Option, some, none}
 use Prim.Native.Nat.{ℕ, _+_, _*_, _≤_, _<_}
@@ -8,18 +8,20 @@ use native.Mathlib.Nat.{mul-suc, mul-le-mul-left}
 use native.Mathlib.Omega.{arith}
 use borrow.Author.Tests.{leb-false}
 use lib.Dec.{eqb, leb}
-use lib.ListN.{length, length-append, length-replicate}
+use lib.ListN.{length, length-replicate}
 use Rattle.lists.specs.Every.{Every}
-use Rattle.sampleinfo.specs.Lifecycle.{isLast}
 use Rattle.keys.specs.Keys.{Later}
 use Rattle.keys.specs.KeyLaws.{key-later}
-use Rattle.keys.specs.declared.Issued.{Issued}
 use Rattle.keys.specs.declared.Issued.the-variants as issued
 use Rattle.store.specs.Fit.{Deep}
-use Rattle.model.specs.Model.{Model, Instance, Live, Arrival, Place, held, find, put, isNew, unkept, noKey, keyIn, issueOf, stateIn, wellFormed, lives, liveOf, push, window, oldOf, refusalOf, arrived, roomy, slotOf, count, inSlot}
+use Rattle.model.specs.Model.{Model, Instance, Live, Arrival, Place, held, find, put, isNew, unkept, noKey, keyIn, issueOf, lives, liveOf, window, oldOf, refusalOf, arrived, roomy, slotOf, count, inSlot}
+use Rattle.model.proofs.Slots.{length-push, length-put, lowest-below, lowest-free}
+use Rattle.model.proofs.Laws.{newcomer, find-there, find-here, put-there, put-here}
+use Rattle.model.proofs.Refusals.{issue-given, passed}
+use Rattle.model.proofs.Counting.{new-count, new, count-true, Pushable, count-append, count-places}
 use Rattle.refine.specs.Good.{Good, Sized}
 use Rattle.refine.specs.Tables.{split}
-use Rattle.refine.specs.Counting.{put-here, put-there, find-here, find-there, Pushable, new, count-append, count-places, count-true, new-count, roomy-all, lowest-below, lowest-free}
+use Rattle.refine.specs.Counting.{roomy-all}
 
 -- ---- the tests, in order
 
@@ -31,42 +33,12 @@ none-so false false false true c h = absurd (omega arith)
 none-so false false false false true h = absurd (omega arith)
 none-so false false false false false h = (refl, refl, refl, refl, refl)
 
-pub record Passed (m : Model) (a : Arrival) : Type 0 where
-  pub formed : not (wellFormed a) ≡ false
-  pub keyed : noKey (issueOf m a) ≡ false
-  pub roomed : isNew (find (a .name) (m .instances)) && leb (m .room) (length (m .instances)) ≡ false
-  pub young : isLast (oldOf m a .meta) (stateIn a) ≡ false
-  pub slotted : unkept (m .keep) && leb 256 (length (lives (m .instances))) ≡ false
-
-pub passed : (m : Model) (a : Arrival) → refusalOf m a ≡ 0 → Passed m a
-unfolding refusalOf
-passed m a e = record { formed = q .0; keyed = q .1; roomed = q .2; young = q .3; slotted = q .4 }
-  where
-    q : (not (wellFormed a) ≡ false) × (noKey (issueOf m a) ≡ false) × (isNew (find (a .name) (m .instances)) && leb (m .room) (length (m .instances)) ≡ false)
-        × (isLast (oldOf m a .meta) (stateIn a) ≡ false) × (unkept (m .keep) && leb 256 (length (lives (m .instances))) ≡ false)
-    q = none-so _ _ _ _ _ e
-
 -- ---- the key
-
-issue-given : (x : Issued) → noKey x ≡ false → x ≡ issued.Key (keyIn x)
-issue-given (issued.Key k) e = refl
-issue-given issued.Refused e = absurd (true≢false e)
 
 pub key-new : (m : Model) (a : Arrival) → noKey (issueOf m a) ≡ false → Later (m .last) (keyIn (issueOf m a))
 key-new m a e = key-later (m .last) (a .time) (keyIn (issueOf m a)) (issue-given (issueOf m a) e)
 
 -- ---- the instances
-
-abbrev pub newcomer : Option Instance → ℕ
-newcomer none = 1
-newcomer (some i) = 0
-
-pub length-put : (j : Instance) (is : List Instance) → length (put j is) ≡ newcomer (find (j .name) is) + length is
-unfolding put find
-length-put j [] = refl
-length-put j (i ∷ is) = split (eqb (i .name) (j .name))
-    (λ e. rw (put-here j i is e, find-here (j .name) i is e) (omega arith))
-    (λ e. rw (put-there j i is e, find-there (j .name) i is e) (omega (arith, length-put j is)))
 
 pub every-find : (P : Instance → Type 0) (n : ℕ) (is : List Instance) (i : Instance) → Every P is → find n is ≡ some i → P i
 unfolding find Every
@@ -90,11 +62,6 @@ every-old P m a h f = go (find (a .name) (m .instances)) refl
     go : (o : Option Instance) → find (a .name) (m .instances) ≡ o → P (oldOf m a)
     go none q = f (oldOf m a) refl q
     go (some j) q = rw q (every-find P (a .name) (m .instances) j h q)
-
-length-push : (k : Option ℕ) (d : ℕ) (ps : List Place) (x : Place) → k ≡ some d → 0 < length ps → length (push k ps x) ≡ length ps
-unfolding push
-length-push k d [] x e h = absurd (omega arith)
-length-push k d (q ∷ qs) x e h = rw (e, length-append qs (x ∷ [])) (omega arith)
 
 count-sized : (p : Live → Bool) (d : ℕ) (is : List Instance) → Every (Sized (some d)) is → count p (lives is) ≤ d * length is
 unfolding lives count Every

@@ -11,7 +11,6 @@ use borrow.Author.Tests.{lt-ltb, le-ltb, ltb-true, ltb-false, leb-true, eq-eqb, 
 use lib.ListN.{length, getD, set, length-map, List·getD-map}
 use lib.Dec.{ltb, leb, eqb}
 use Rattle.lists.specs.Blocks.{putAt, map-put}
-use Rattle.lists.specs.Count.{bit}
 use Rattle.slots.specs.Bits.{firstOne}
 use Rattle.sampleinfo.specs.Lifecycle.{countsOf, isLast, lifecycleOf}
 use Rattle.sampleinfo.specs.Samples.{emptySample}
@@ -20,15 +19,18 @@ use Rattle.keys.specs.declared.Last.the-variants as last
 use Rattle.keys.specs.declared.Issued.{Issued}
 use Rattle.keys.specs.declared.Issued.the-variants as issued
 use Rattle.model.specs.Model.{Model, Instance, Live, Arrival, Place, gone, held, find, isNew, unkept, noKey, keyIn, keyed, issueOf, stateIn, wellFormed, lives, liveIn, liveOf, push, pushedOut, oldOf, orFresh, refusalOf, arrived, roomy, slotOf, lowestFrom, accept, adding, count, inSlot}
+use Rattle.model.proofs.Slots.{lowest-below, lowest-free, not-reached}
+use Rattle.model.proofs.Counting.{roomy-count, new, count-true, count-append, window-live}
+use Rattle.model.specs.Demand3.{hasKey}
 use Rattle.store.specs.Store as S
 use Rattle.store.specs.Store.{Inst, placeOf, freshInst, declined, movedOn}
 use Rattle.refine.specs.Layout.{cellsOf, instOf, Entry, entry, entriesFrom, entriesOf, lookUp, tabFrom, slotsOf, slotOrNone, freeOf, keyOf, ownerOf, sampleOf, newestOf, storeOf, tableOf}
-use Rattle.refine.specs.Good.{Good, hasKey}
+use Rattle.refine.specs.Good.{Good}
 use Rattle.refine.specs.Tables.{bit-le, split, livesIn, uses, uses-append, uses-here, look-here, slot-at}
-use Rattle.refine.specs.Entries.{map-append, lives-of, window-live, before, behind, among, entries-put, entries-at, insts, put-is, find-is, new-is, name-is, place-le}
-use Rattle.refine.specs.Counting.{new, count-append, roomy-count, roomy-all, lowest-below, lowest-free, short-of, count-true}
+use Rattle.refine.specs.Entries.{map-append, lives-of, before, behind, among, entries-put, entries-at, insts, put-is, find-is, new-is, name-is, place-le}
+use Rattle.refine.specs.Counting.{roomy-all, short-of}
 use Rattle.refine.specs.Accepted.{key-new, pushable, roomy-short, slot-free}
-use Rattle.refine.specs.GoodLaws.{not-reached, bit-one}
+use Rattle.refine.specs.GoodLaws.{bit-one}
 use Rattle.refine.specs.Window.{outOf, stayIn, live-old, live-gone, live-held, out-cell, fresh-cells, push-cells, out-handle, handleIn, roomed, beforehand, afterwards, after-as, roomed-as, slots-out, slots-moved}
 use Rattle.refine.specs.Answers.{wantedOf, outSlot, metaAfter, recordFor, saidOf, stepOf, evicted, answerOf}
 

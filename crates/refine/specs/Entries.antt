@@ -7,11 +7,11 @@ use Prim.Native.Nat.{ℕ, zero, suc, _+_, _≤_, _<_}
 use native.Mathlib.Nat.{not-suc-le-zero, le-of-suc-le-suc, add-zero}
 use native.Mathlib.Omega.{arith}
 use borrow.Author.Tests.{eqb-true}
-use lib.ListN.{length, getD, take, drop, replicate}
+use lib.ListN.{length, getD, take, drop}
 use lib.Dec.{leb, eqb, leb·suc-zero, leb·suc-suc}
 use Rattle.lists.specs.Blocks.{putAt}
 use Rattle.sampleinfo.specs.declared.InstanceState.{InstanceState}
-use Rattle.model.specs.Model.{Live, Place, gone, held, Instance, find, put, liveIn, lives, window, isNew, orFresh}
+use Rattle.model.specs.Model.{Live, Place, gone, held, Instance, find, put, liveIn, lives, isNew, orFresh}
 use Rattle.store.specs.Store.{Inst, placeOf}
 use Rattle.refine.specs.Layout.{Entry, entry, entriesFrom, instOf}
 use Rattle.refine.specs.Tables.{livesIn}
@@ -36,16 +36,6 @@ unfolding liveIn
 live-append [] qs = refl
 live-append (gone ∷ ps) qs = live-append ps qs
 live-append (held s ∷ ps) qs = ap (λ (r : List Live). s ∷ r) (live-append ps qs)
-
-gone-live : (d : ℕ) → liveIn (replicate d gone) ≡ []
-unfolding liveIn
-gone-live zero = refl
-gone-live (suc d) = gone-live d
-
-pub window-live : (k : Option ℕ) → liveIn (window k) ≡ []
-unfolding window liveIn
-window-live none = refl
-window-live (some d) = gone-live d
 
 -- those before the instance at a place, and those behind it
 abbrev pub before : ℕ → ℕ → List Instance → List Entry

@@ -1,37 +1,24 @@
 -- What holds of every cache that only the calls have changed.
 use mathlib.Core.Path.{_≡_}
-use mathlib.Core.Bool.{Bool, false}
 use mathlib.Core.List.{List, [], _∷_}
 use mathlib.Core.Option.{Option, some, none}
-use Prim.Native.Nat.{ℕ, _+_, _≤_, _<_}
+use Prim.Native.Nat.{ℕ, _≤_, _<_}
 use lib.ListN.{length}
-use lib.Dec.{ltb, leb, eqb}
+use lib.Dec.{ltb}
 use Rattle.lists.specs.Every.{Every}
 use Rattle.lists.specs.Count.{bit}
 use Rattle.sampleinfo.specs.Counts.{total}
 use Rattle.sampleinfo.specs.Lifecycle.{countsOf}
-use Rattle.keys.specs.declared.Last.{Last}
 use Rattle.keys.specs.declared.Last.the-variants as last
 use Rattle.model.specs.Model.{Live, Instance, Model, liveIn, lives, count, inSlot}
+use Rattle.model.proofs.Slots.{reached}
+use Rattle.model.specs.Demand3.{timesHeld, hasKey}
 use Rattle.store.specs.Fit.{Deep}
-
-abbrev pub hasKey : ℕ → Live → Bool
-hasKey k s = eqb (s .key) k
-
--- how often the name is held
-unfoldable pub timesHeld : ℕ → List Instance → ℕ
-timesHeld n [] = 0
-timesHeld n (i ∷ is) = bit (eqb (i .name) n) + timesHeld n is
 
 -- under a keep count there are always d places
 abbrev pub Sized : Option ℕ → Instance → Type 0
 Sized none i = Unit {0}
 Sized (some d) i = length (i .places) ≡ d
-
--- one of the keys issued so far, or later ones on the way to them
-abbrev pub reached : Last → ℕ → Bool
-reached last.Never k = false
-reached (last.Key l) k = leb k l
 
 -- the keys of an instance's live samples rise
 unfoldable pub Rising : List Live → Type 0

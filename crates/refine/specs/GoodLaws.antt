@@ -6,7 +6,7 @@ use mathlib.Core.Option.{Option, some, none}
 use Prim.Native.Nat.{ℕ, _+_, _*_, _≤_, _<_}
 use native.Mathlib.Nat.{mul-comm}
 use native.Mathlib.Omega.{arith}
-use borrow.Author.Tests.{eqb-true, eq-eqb, lt-ltb, le-leb, lt-leb, leb-true, leb-false}
+use borrow.Author.Tests.{eqb-true, eq-eqb, lt-ltb, le-leb, leb-true, leb-false}
 use lib.Dec.{eqb, leb, ltb}
 use lib.IntN.{ℤ, pos, negsuc}
 use lib.ListN.{length, length-map}
@@ -24,45 +24,19 @@ use Rattle.store.specs.Fit.{Deep, depthOf}
 use Rattle.model.specs.Pairs.{Pair}
 use Rattle.model.specs.Model as M
 use Rattle.model.specs.Model.{Model, Instance, Live, Arrival, SetUp, Call, setUp, add, dies, look, list, after, Place, gone, held, find, put, liveIn, lives, count, inSlot, push, asRead, listedIn, touch, listed, left, keyIn, issueOf, stateIn, oldOf, refusalOf, arrived, slotOf, accept, adding, dying, access, accessing, fine, within, keepOf, keepFits, isZero, countsKept, countsNone, fresh, settingUp, step}
-use Rattle.model.specs.Story.{run}
-use Rattle.refine.specs.Good.{Good, hasKey, timesHeld, Sized, reached, Rising, Bounded, InOrder}
+use Rattle.model.specs.Story.{run, livesOf}
+use Rattle.model.proofs.Slots.{reached-on, not-reached, length-put, reached}
+use Rattle.model.proofs.Names.{times-listed, times-put-once}
+use Rattle.model.proofs.Laws.{newcomer, find-there, find-here}
+use Rattle.model.proofs.Refusals.{passed}
+use Rattle.model.proofs.Counting.{new-count, roomy-count, old-count, new, count-append, count-put, count-listed, window-live}
+use Rattle.model.specs.Demand3.{timesHeld, hasKey}
+use Rattle.refine.specs.Good.{Good, Sized, Rising, Bounded, InOrder}
 use Rattle.refine.specs.Tables.{split}
-use Rattle.refine.specs.Entries.{live-append, window-live, found-name}
-use Rattle.refine.specs.Counting.{put-here, put-there, find-here, find-there, livesOf, new, count-append, count-put, count-listed, old-count, roomy-count, new-count}
-use Rattle.refine.specs.Accepted.{passed, key-new, newcomer, length-put, every-find, every-put, every-old, pushable, new-sized, new-few, slot-below, slot-free}
+use Rattle.refine.specs.Entries.{live-append, found-name}
+use Rattle.refine.specs.Accepted.{key-new, every-find, every-put, every-old, pushable, new-sized, new-few, slot-below, slot-free}
 
 -- ---- names
-
-times-put : (n : ℕ) (j : Instance) (is : List Instance) → timesHeld n (put j is) ≡ cond (eqb (j .name) n) (newcomer (find (j .name) is)) 0 + timesHeld n is
-unfolding put find timesHeld
-times-put n j [] = refl
-times-put n j (i ∷ is) = split (eqb (i .name) (j .name))
-    (λ e. rw (put-here j i is e, find-here (j .name) i is e, eqb-true (i .name) (j .name) e) (split (eqb (j .name) n) (λ q. rw q (omega arith)) (λ q. rw q (omega arith))))
-    (λ e. rw (put-there j i is e, find-there (j .name) i is e) (omega (arith, times-put n j is)))
-
-none-some {ℓ} : {A : Type ℓ} {i : A} (o : Option A) → o ≡ none → o ≡ some i → ⊥
-none-some o p q = let z : _≡_ {A = ℕ} 0 1 = cc in omega arith
-
-pub times-none : (n : ℕ) (is : List Instance) → find n is ≡ none → timesHeld n is ≡ 0
-unfolding find timesHeld
-times-none n [] h = refl
-times-none n (i ∷ is) h = split (eqb (i .name) n)
-    (λ e. absurd (none-some (find n (i ∷ is)) h (find-here n i is e)))
-    (λ e. rw e (omega (arith, times-none n is (sym (find-there n i is e) ∙ h))))
-
-once-put : (n : ℕ) (j : Instance) (is : List Instance) → timesHeld n is ≤ 1 → timesHeld n (put j is) ≤ 1
-once-put n j is h = rw times-put (split (eqb (j .name) n)
-    (λ e. rw e (go (find (j .name) is) refl e))
-    (λ e. rw e (omega arith)))
-  where
-    go : (o : Option Instance) → find (j .name) is ≡ o → eqb (j .name) n ≡ true → newcomer (find (j .name) is) + timesHeld n is ≤ 1
-    go none f e = rw f (omega (arith, times-none n is (rw (eqb-true (j .name) n e) at f)))
-    go (some i) f e = rw f (omega arith)
-
-times-listed : (n : ℕ) (t : Bool) (ps : List Pair) (is : List Instance) → timesHeld n (map (listed t ps) is) ≡ timesHeld n is
-unfolding timesHeld
-times-listed n t ps [] = refl
-times-listed n t ps (i ∷ is) = omega (arith, times-listed n t ps is)
 
 -- ---- what holds of every instance
 
@@ -140,16 +114,6 @@ reached-below : (l : Last) (k j : ℕ) → Later l k → reached l j ≡ true �
 reached-below last.Never k j h e = absurd (true≢false (sym e))
 reached-below (last.Key x) k j h e = omega (arith, leb-true j x e)
 
-pub not-reached : (o : Last) (k : ℕ) → Later o k → bit (reached o k) ≡ 0
-not-reached last.Never k h = refl
-not-reached (last.Key l) k h = rw (lt-leb k l h)
-
-reached-on : (o : Last) (k j : ℕ) → Later o k → bit (reached o j) ≤ bit (leb j k)
-reached-on last.Never k j h = omega arith
-reached-on (last.Key l) k j h = split (leb j l)
-    (λ e. rw (e, le-leb j k (omega (arith, leb-true j l e))) (omega arith))
-    (λ e. rw e (omega arith))
-
 pub count-find : (p : Live → Bool) (n : ℕ) (is : List Instance) → count p (livesOf (find n is)) ≤ count p (lives is)
 unfolding find lives count
 count-find p n [] = omega arith
@@ -206,7 +170,7 @@ module _ (m : Model) (g : Good m) (a : Arrival) (e : refusalOf m a ≡ 0) where
     rooms = g .rooms;
     deep = g .deep;
     even = new-sized m g a (held _);
-    names = λ n. once-put n (arrived (m .keep) (oldOf m a) a (held _)) (m .instances) (g .names n);
+    names = λ n. times-put-once n (arrived (m .keep) (oldOf m a) a (held _)) (m .instances) (g .names n);
     totals = new-totals (held _);
     orders = new-orders _ refl;
     slots = new-slots _ refl;
@@ -234,7 +198,7 @@ module _ (m : Model) (g : Good m) (n : ℕ) (j : Instance) (f : find n (m .insta
     rooms = g .rooms;
     deep = g .deep;
     even = every-put (Sized (m .keep)) (left j) (m .instances) (left-sized (m .keep) j (every-find (Sized (m .keep)) n (m .instances) j (g .even) f)) (g .even);
-    names = λ k. once-put k (left j) (m .instances) (g .names k);
+    names = λ k. times-put-once k (left j) (m .instances) (g .names k);
     totals = every-put Bounded (left j) (m .instances) (every-find Bounded n (m .instances) j (g .totals) f) (g .totals);
     orders = every-put InOrder (left j) (m .instances) (every-find InOrder n (m .instances) j (g .orders) f) (g .orders);
     slots = λ k. omega (arith, left-count (inSlot k), g .slots k);

@@ -15,13 +15,15 @@ use Rattle.sampleinfo.specs.Samples.{emptySample, totalOf}
 use Rattle.keys.specs.declared.Last.{Last}
 use Rattle.keys.specs.declared.Last.the-variants as last
 use Rattle.model.specs.Model.{Model, Live, lives, count, keyed, later, latest, latestTotal}
+use Rattle.model.proofs.Counting.{count-append}
+use Rattle.model.proofs.Slots.{reached}
+use Rattle.model.specs.Demand3.{hasKey}
 use Rattle.store.specs.Store.{Store, laterSlot, greatestFrom, latestSlot}
 use Rattle.refine.specs.Layout.{Entry, entriesOf, lookUp, slotOrNone, freeOf, keyOf, sampleOf, newestOf, storeOf, tableOf}
-use Rattle.refine.specs.Good.{Good, hasKey, reached}
+use Rattle.refine.specs.Good.{Good}
 use Rattle.refine.specs.GoodLaws.{all-reached}
 use Rattle.refine.specs.Tables.{split, length-slots}
 use Rattle.refine.specs.Entries.{lives-of}
-use Rattle.refine.specs.Counting.{count-append}
 use Rattle.refine.specs.Add.{keyed-here}
 use Rattle.refine.specs.Found.{every-over, every-under, every-keyed, every-look, look-slot, keyed-key, Placed, every-placed}
 use Rattle.refine.specs.Named.{free-at, key-at, record-at, key-once}

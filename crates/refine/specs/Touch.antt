@@ -12,12 +12,13 @@ use Rattle.lists.specs.Every.{Every}
 use Rattle.lists.specs.Blocks.{putAt}
 use Rattle.model.specs.Pairs.{Pair, among, samePair}
 use Rattle.model.specs.Model.{Model, Instance, Live, Place, gone, held, find, lives, count, inSlot, asRead, mark, listedIn, touch}
+use Rattle.model.proofs.Counting.{count-append, count-touch}
+use Rattle.model.specs.Demand3.{timesHeld, hasKey}
 use Rattle.store.specs.Store.{placeOf}
-use Rattle.refine.specs.Good.{Good, hasKey, timesHeld, Sized, Bounded, InOrder}
+use Rattle.refine.specs.Good.{Good, Sized, Bounded, InOrder}
 use Rattle.refine.specs.GoodLaws.{rising-touch}
 use Rattle.refine.specs.Tables.{split}
 use Rattle.refine.specs.Entries.{insts}
-use Rattle.refine.specs.Counting.{count-append, count-touch}
 
 -- the places that the list names are touched, and no instance's record
 abbrev pub touchedIn : Bool → List Pair → Instance → Instance

@@ -8,11 +8,11 @@ use lib.ListN.{set, replicate}
 use lib.Seq.{set-out}
 use Rattle.sampleinfo.specs.States.{handleOf}
 use Rattle.model.specs.Model.{Live, Place, gone, held, liveIn, push, pushedOut, window}
+use Rattle.model.proofs.Counting.{Pushable}
 use Rattle.store.specs.Store.{oldest, movedOn, cellsFor}
 use Rattle.refine.specs.Layout.{cellOf, cellsOf, Entry, entry, slotsOf, slotOrNone}
 use Rattle.refine.specs.Tables.{uses, uses-here, length-slots, slots-more, slots-less}
 use Rattle.refine.specs.Entries.{live-append, map-append}
-use Rattle.refine.specs.Counting.{Pushable}
 
 -- ---- what leaves, and what stays
 

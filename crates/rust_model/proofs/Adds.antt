@@ -25,7 +25,7 @@ use Rattle.model.specs.Model.{Model, Live, Instance, Arrival, Place, held, find
 use Rattle.model.specs.Story.{Every, AtMost, untaken, entryKeys, lastKey, livesOf, liveAt}
 use Rattle.model.specs.Demand3.{In}
 use Rattle.model.proofs.Laws.{split, every-imp, every-append, find-put-same, find-put-other, placesOf, places-none}
-use Rattle.model.proofs.Keys.{key-new}
+use Rattle.model.proofs.Keys.{key-new, at-most-later, at-most-below}
 use Rattle.rust_model.specs.Maps.{Entry, entry, get, insert, lastEntry, orLast, insertStamp}
 use Rattle.rust_model.specs.DataSampleCache.{InstanceMetaData, SampleWithMetaData, DataSamples, DataSampleCache, Added, receiveTimestamp, newInstanceState, orNew, generations, updated, keepCount, keysToRemove, removeStamps, removeSamples, removedHandles, withSamples, receivedAs, inserted, «add_sample»}
 use Rattle.rust_model.specs.Ground.{LastLives}
@@ -102,14 +102,6 @@ key-by-last l time (some f) h q e = rw (same (f .at) l h q) (split (ltb l time)
 later-last : (o : Last) (ks : List ℕ) (t : ℕ) → Later o t → Every (λ k. k < t) ks → Later (lastKey o ks) t
 later-last o [] t p h = p
 later-last o (k ∷ ks) t p h = later-last (last.Key k) ks t (h .0) (h .1)
-
-at-most-below : (o : Last) (j k : ℕ) → Later o k → AtMost o j → j < k
-at-most-below last.Never j k p h = absurd h
-at-most-below (last.Key l) j k p h = omega arith
-
-at-most-later : (o : Last) (l k : ℕ) → Later o l → AtMost o k → AtMost (last.Key l) k
-at-most-later last.Never l k p h = absurd h
-at-most-later (last.Key j) l k p h = omega arith
 
 module _ (m : Model) (c : DataSampleCache) (log : List Kept) (h : Alike m c log) where
   in-mine : (n : ℕ) (s : Live) → In s (liveAt n m) → In s (untaken (mine n log))

@@ -16,22 +16,18 @@ use Rattle.sampleinfo.specs.Lifecycle.{accessedOf}
 use Rattle.sampleinfo.specs.Samples.{sampleStateOf, totalOf}
 use Rattle.sampleinfo.specs.declared.NotAliveGenerationCounts.{NotAliveGenerationCounts}
 use Rattle.sampleinfo.specs.declared.Sample.{Sample}
-use Rattle.sampleinfo.specs.declared.SampleState.{SampleState}
-use Rattle.sampleinfo.specs.declared.SampleState.the-variants.{Read, NotRead}
-use Rattle.sampleinfo.specs.declared.ViewState.{ViewState}
 use Rattle.sampleinfo.specs.declared.ViewState.the-variants.{New, NotNew}
-use Rattle.sampleinfo.specs.declared.InstanceState.{InstanceState}
-use Rattle.sampleinfo.specs.declared.InstanceState.the-variants.{Alive, NotAliveDisposed, NotAliveNoWriters}
 use Rattle.readcondition.specs.Masks.{has, chosenBy}
 use Rattle.readcondition.specs.declared.ReadCondition.{ReadCondition}
 use Rattle.lists.specs.Insert.{insertBy}
 use Rattle.lists.specs.Sort.{Strict, insert-comm}
 use Rattle.model.specs.Pairs.{Hit, earlier, insert, sorted, pairsIn}
-use Rattle.model.specs.PairLaws.{Before, earlier-before, not-earlier}
+use Rattle.model.specs.PairLaws.{Before, earlier-before, not-earlier, before-trans, before-not}
 use Rattle.model.specs.Views.{viewOf}
 use Rattle.model.specs.Model.{Live, Instance, liveIn, chosen, hitOf, hitsIn, hits}
 use Rattle.model.specs.Story.{Entry as Told, Every, untaken, entryKeys}
 use Rattle.model.proofs.Laws.{split, every-imp}
+use Rattle.readcondition.specs.MaskLaws.{any-instance, any-view, any-sample}
 use Rattle.rust_model.specs.Maps.{gives, get}
 use Rattle.rust_model.specs.DataSampleCache.{InstanceMetaData, SampleWithMetaData, DataSamples, InstanceMap, isNew, viewState, «sample_selector», cachedKeys, insertStable, sortByCachedKey, «sort_by_sequence_number», selectedKeys, selectedStamps}
 use Rattle.rust_model.proofs.Alike.{Kept, keyAt, mine, stored, samples, Rising, ticks, Matches}
@@ -53,19 +49,6 @@ any-mask mask all bit h = split (eqb mask all)
     (λ e. rw e (sym (ap (λ (n : ℕ). has n bit) (eqb-true mask all e) ∙ h)))
     (λ e. rw e)
 
-any-sample : (s : SampleState) → has 3 (sampleBit s) ≡ true
-any-sample Read = refl
-any-sample NotRead = refl
-
-any-view : (v : ViewState) → has 3 (viewBit v) ≡ true
-any-view New = refl
-any-view NotNew = refl
-
-any-instance : (i : InstanceState) → has 7 (instanceBit i) ≡ true
-any-instance Alive = refl
-any-instance NotAliveDisposed = refl
-any-instance NotAliveNoWriters = refl
-
 pub selector-same : (rc : ReadCondition) (keep : Option ℕ) (es : List Told) (i : Instance) (d : InstanceMetaData) → Matches keep es i d → (s : Live) → «sample_selector» rc d (s .sample) ≡ chosen rc i s
 unfolding «sample_selector» chosenBy
 selector-same rc keep es i d h s = rw (
@@ -80,18 +63,6 @@ selector-same rc keep es i d h s = rw (
 -- pairs of different keys: one is before the other
 abbrev Apart : Hit → Hit → Type 0
 Apart x y = x .pair .key ≡ y .pair .key → ⊥
-
-before-not : (a b : Hit) → Before a b → Before b a → ⊥
-before-not a b (inl h) (inl k) = omega arith
-before-not a b (inl h) (inr k) = omega (arith, k .0)
-before-not a b (inr h) (inl k) = omega (arith, h .0)
-before-not a b (inr h) (inr k) = omega (arith, h .1, k .1)
-
-before-trans : (a b c : Hit) → Before a b → Before b c → Before a c
-before-trans a b c (inl h) (inl k) = inl (omega arith)
-before-trans a b c (inl h) (inr k) = inl (omega (arith, k .0))
-before-trans a b c (inr h) (inl k) = inl (omega (arith, h .0))
-before-trans a b c (inr h) (inr k) = inr (h .0 ∙ k .0, omega (arith, h .1, k .1))
 
 before-total : (a b : Hit) → Apart a b → ¬ Before a b → Before b a
 before-total a b d h = go (decLt (b .seq) (a .seq))
