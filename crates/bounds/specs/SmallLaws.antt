@@ -19,10 +19,10 @@ use Rattle.model.specs.Pairs.{Pair}
 use Rattle.model.specs.Model.{Model, Instance, Live, Arrival, SetUp, Call, setUp, add, dies, look, list, after, Place, gone, held, find, put, liveIn, lives, push, mark, listedIn, touch, listed, left, oldOf, refusalOf, arrived, bodyIn, stateIn, accept, adding, dying, access, accessing, fine, within, keepOf, fresh, settingUp, step, keyed, named, latest, latestTotal, instanceTotal, lastTotal, Edition, byTheRust, ranksAt, infoOf, infoAt, infosOf, choices, choosing, scope}
 use Rattle.model.proofs.Laws.{put-there, put-here}
 use Rattle.model.proofs.Counting.{window-live}
+use Rattle.model.specs.PairLaws.{split}
 use Rattle.readcondition.specs.Masks.{isValid}
 use Rattle.refine.specs.Good.{Good, Bounded}
 use Rattle.refine.specs.GoodLaws.{good-accept}
-use Rattle.refine.specs.Tables.{split}
 use Rattle.refine.specs.Entries.{live-append}
 use Rattle.refine.specs.Accepted.{every-find, every-put, every-old}
 use Rattle.refine.specs.Found.{every-over, every-keyed}

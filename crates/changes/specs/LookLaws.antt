@@ -12,6 +12,7 @@ use lib.ListN.{length, getD, take, drop, length-append, length-set, drop-of-leng
 use lib.Seq.{drop-cons, take-suc, split-at, take-all}
 use Rattle.lists.specs.Blocks.{flat}
 use Rattle.model.specs.Topic.{Entry, countBelow, holdsPair, within, sameBytes}
+use Rattle.model.proofs.Topic.{within-nil, within-cons}
 use Rattle.changes.specs.declared.Row.{Row}
 use Rattle.changes.specs.Places.{none, rowOf, Writer, Written, Holds, shownIn, putRow, rowAt, copiedRow}
 use Rattle.changes.specs.WriterLaws.{same-halves}
@@ -109,14 +110,6 @@ module _ (ws : List ℕ) (from held : ℕ) (x : Row) where
   sought-turn i b s m q t es e h w v r = sym (here i m b q es e h w v r ∙ rw t) ∙ s es e h w v r
 
 -- ---- the range
-
-within-nil : (s t : ℕ) → within s t [] ≡ []
-unfolding within
-within-nil s t = refl
-
-within-cons : (s t : ℕ) (e : Entry) (es : List Entry) → within s t (e ∷ es) ≡ cond (ltb s (e .key) && leb (e .key) t) (e ∷ within s t es) (within s t es)
-unfolding within
-within-cons s t e es = refl
 
 pub within-append : (s t : ℕ) (a b : List Entry) → within s t (a ++ b) ≡ within s t a ++ within s t b
 within-append s t [] b = rw within-nil

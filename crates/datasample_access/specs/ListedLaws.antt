@@ -17,6 +17,7 @@ use Rattle.model.specs.Pairs.{Pair, Bad, firstBad, noneBad}
 use Rattle.model.specs.Model as M
 use Rattle.model.specs.Model.{Model, isLive, fine, infosFor, access, accessing, step, refuse, Edition, byTheRust}
 use Rattle.model.specs.BadLaws.{allLive, fine-live}
+use Rattle.model.specs.PairLaws.{split}
 use Rattle.pairs.specs.Flat.{pairsOf, wholePairs}
 use Rattle.pairs.specs.FlatLaws.{length-pairs}
 use Rattle.pairs.specs.BadLaws.{none-dead}
@@ -27,7 +28,6 @@ use Rattle.index.specs.declared.Cache.{Cache}
 use Rattle.refine.specs.Good.{Good}
 use Rattle.refine.specs.FitOf.{fit-of}
 use Rattle.refine.specs.Layout.{instOf, storeOf, tableOf}
-use Rattle.refine.specs.Tables.{split}
 use Rattle.refine.specs.Found.{at-below}
 use Rattle.refine.specs.Named.{insts-of, Known}
 use Rattle.refine.specs.Fold.{and-true, Names, names-of, known-of}

@@ -18,12 +18,12 @@ use Rattle.sampleinfo.specs.Samples.{emptySample, totalOf}
 use Rattle.sampleinfo.specs.declared.Sample.{Sample}
 use Rattle.sampleinfo.specs.declared.Info.{Info}
 use Rattle.model.specs.Model.{byTheRust}
+use Rattle.model.specs.PairLaws.{split}
 use Rattle.store.specs.Store.{Store, latestSlot, freed, accessedIn}
 use Rattle.store.specs.Fit.{Fit}
 use Rattle.index.specs.Words.{metasIn, ownersIn, metaAt}
 use Rattle.index.specs.Memory.{indexOf}
 use Rattle.index.specs.MemoryLaws.{owners-are, meta-is}
-use Rattle.refine.specs.Tables.{split}
 use Rattle.refine.specs.Lists.{ownerAt, freedAll, clearedAll, markedAll, seenAt, viewedRows, lastOwned, ranksOn, slotInfos}
 use Rattle.infos.specs.Infos.{ranksFrom, infoFrom}
 use Rattle.infos.specs.declared.Ranking.{Ranking}

@@ -16,12 +16,13 @@ use Rattle.readcondition.specs.declared.ReadCondition.{ReadCondition}
 use Rattle.model.specs.Pairs.{Hit, sorted}
 use Rattle.model.specs.Model.{Model, Instance, Live, find, liveIn, count, chosen, hitOf, hitsIn, hits, one, scope}
 use Rattle.model.specs.Demand3.{timesHeld, hasKey}
+use Rattle.model.specs.PairLaws.{split}
 use Rattle.pairs.specs.OrderLaws.{OtherKey}
 use Rattle.store.specs.Store.{noInst, instAt}
 use Rattle.store.specs.Choosing.{inScope, chosenIn, hitIn, hitAt, hitsFrom}
 use Rattle.refine.specs.Layout.{instOf, Entry, entry, entriesFrom, entriesOf, lookUp, freeOf, keyOf, ownerOf, sampleOf, storeOf, tableOf}
 use Rattle.refine.specs.Good.{Good}
-use Rattle.refine.specs.Tables.{split, livesIn}
+use Rattle.refine.specs.Tables.{livesIn}
 use Rattle.refine.specs.Entries.{lives-of, insts}
 use Rattle.refine.specs.FitOf.{nobody}
 use Rattle.refine.specs.Found.{every-under, every-look, entry-slots}

@@ -14,6 +14,7 @@ use Rattle.keys.specs.declared.Last.the-variants as last
 use Rattle.keys.specs.declared.Issued.{Issued}
 use Rattle.keys.specs.declared.Issued.the-variants as issued
 use Rattle.model.specs.Topic.{Topic, Entry, Limits, update, add, removeBefore, range, refused, key, found, step, places, limitsFit, raised, wider, removal, collects, collectEvery, collectedFor, adding, holdsPair, within, seqFits}
+use Rattle.model.proofs.Topic.{must-le}
 use Rattle.changes.specs.Places.{Holds, Writer, Written, wordsOf, shownIn, entriesIn, entryOf, Ranging, Copying}
 use Rattle.changes.specs.LookLaws.{written-within}
 use Rattle.changes.specs.ResultLaws.{entries-back}
@@ -27,7 +28,7 @@ use Rattle.dds_cache.specs.declared.Update.the-variants as up
 use Rattle.dds_cache.specs.declared.Added.the-variants as added
 use Rattle.dds_cache.specs.declared.Outcome.{Outcome}
 use Rattle.dds_cache.specs.declared.Found.the-variants as got
-use Rattle.dds_cache.specs.Header.{limitsOf, limitedOf, newLimits, limitsNumber, createdOf, createdNumber, Head, shown, headOf, Tied, Fit, topicOf, madeOf, clearedIf, Creating, Raised, Came, Removed, Shown, Updates, Adds, Removes, Ranges, Refusing, Inner, addedOf, foundOf, changeOf, dropsFor, without, behind, inserted, Internal}
+use Rattle.dds_cache.specs.Header.{limitsOf, limitedOf, newLimits, limitsNumber, Head, shown, headOf, Tied, Fit, topicOf, madeOf, clearedIf, Creating, Raised, Came, Removed, Shown, Updates, Adds, Removes, Ranges, Refusing, Inner, addedOf, changeOf, dropsFor, without, behind, inserted, Internal}
 
 -- ---- the header and its topic cache
 
@@ -161,10 +162,6 @@ pub inserted-words : (h k : TopicCache) (n i : ℕ) (x : CacheChange) (ws mid af
 inserted-words h k n i x ws mid after p m w es o f =
     let e : k .held ≡ length (drop n es) = simp length-drop (ap (λ (y : TopicCache). y .held) p ∙ ap (λ (y : ℕ). y - n) (o .number)) in
     w (drop n es) (record { few = omega arith; number = e; words = m es o }) (omega arith)
-
-must-le : (l : Limits) (t : ℕ) (es : List Entry) → length es - l .most ≤ removal l t es
-unfolding removal
-must-le l t es = omega arith
 
 module _ (h : TopicCache) (es : List Entry) (t : ℕ) (x : CacheChange) (n : ℕ) (d : n ≡ dropsFor (limitsOf (h .limits)) es (x .«sequence_number») (x .«payload_size»)) where
   collected-is : collectedFor (topicOf h es) (changeOf t x) ≡ topicOf h (drop n es)

@@ -15,7 +15,7 @@ use mir.Val.{Fits}
 use mir.Syntax.{w64}
 use Rattle.lists.specs.Blocks.{filled-get-or, get-map}
 use Rattle.slots.specs.Bits.{bitsOf, freeAt}
-use Rattle.store.specs.Store.{Inst, Store, placeOf, noInst, instAt, least, nextName, cellKeyed, slotKeyed, slotOfKey, slotNamed, laterSlot, greatestFrom, latestSlot}
+use Rattle.store.specs.Store.{Inst, Store, placeOf, noInst, instAt, nextName, cellKeyed, slotKeyed, slotOfKey, slotNamed, laterSlot, greatestFrom, latestSlot}
 use Rattle.store.specs.Fit.{Fit, Deep, depthOf}
 use Rattle.index.specs.Words.{region}
 use Rattle.index.specs.Memory.{nameOf, cellsOf, View, Tied, Held}
@@ -24,6 +24,7 @@ use Rattle.index.specs.declared.Cache.{Cache}
 use Rattle.lookup.specs.Lookup.{nextOf, leastOf, nearerOf, pairOf, Windowed, Slotted}
 use Rattle.lookup.specs.declared.Next.{Next}
 use Rattle.lookup.specs.declared.Next.the-variants as next
+use Rattle.model.specs.Model.{least}
 
 -- ---- the next instance key
 

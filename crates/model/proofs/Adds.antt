@@ -15,10 +15,11 @@ use Rattle.sampleinfo.specs.declared.NotAliveGenerationCounts.{NotAliveGenerati
 use Rattle.model.specs.Model.{Model, Instance, Live, Arrival, Place, gone, held, Step, add, dies, added, find, put, liveIn, push, pushedOut, left, dying, oldOf, issueOf, keyIn, refusalOf, arrived, slotOf, accept, step}
 use Rattle.model.specs.Story.{liveAt}
 use Rattle.model.specs.Demand3.{Pushes, Adds, Leaves}
-use Rattle.model.proofs.Laws.{split, Done, turned, came, done, find-name, find-here, find-there, put-here, put-there, find-put-same, find-put-other}
+use Rattle.model.proofs.Laws.{Done, turned, came, done, find-name, find-here, find-there, put-here, put-there, find-put-same, find-put-other}
 use Rattle.model.proofs.Refusals.{none-some, not-ok, number, passed, issue-given}
 use Rattle.model.proofs.Counting.{Pushable, live-append, window-live}
 use Rattle.model.proofs.Slots.{Valid, here-is, can-push, slot-lowest}
+use Rattle.model.specs.PairLaws.{split}
 
 -- ---- an accepted add
 pushes : (k : Option ℕ) (ps : List Place) (s : Live) → Pushable k ps → Pushes (liveIn ps) s (pushedOut k ps) (liveIn (push k ps (held s)))

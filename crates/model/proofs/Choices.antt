@@ -12,11 +12,11 @@ use borrow.Author.Tests.{eqb-true, eq-eqb, ne-eqb, ltb-true, ltb-false, le-leb, 
 use Rattle.readcondition.specs.Masks.{isValid}
 use Rattle.readcondition.specs.declared.ReadCondition.{ReadCondition}
 use Rattle.model.specs.Pairs.{Pair, Hit, earlier, sorted, pairsIn}
-use Rattle.model.specs.PairLaws.{in-append, in-map, in-sorted, pair-is, not-earlier, Sorted, sorted-sorted, timesKey, times-sorted, times-append, distinct-keys, every-in}
+use Rattle.model.specs.PairLaws.{in-append, in-map, in-sorted, pair-is, not-earlier, Sorted, sorted-sorted, timesKey, times-sorted, times-append, distinct-keys, every-in, split}
 use Rattle.model.specs.Model.{Model, Instance, Live, selected, next, look, after, find, liveIn, lives, count, chosen, hitOf, hitsIn, hits, one, scope, choices, choosing, least, nextName, step}
 use Rattle.model.specs.Story.{Every, livesOf, liveAt}
 use Rattle.model.specs.Demand3.{In, IsAt, hasKey, InScope, Chosen, Precedes, Ordered, Selection, Looks, Nexts, timesHeld}
-use Rattle.model.proofs.Laws.{split, find-here, find-there, find-name}
+use Rattle.model.proofs.Laws.{find-here, find-there, find-name}
 use Rattle.model.proofs.Refusals.{none-some}
 use Rattle.model.proofs.Counting.{count-append}
 use Rattle.model.proofs.Slots.{here-is}

@@ -10,7 +10,8 @@ use lib.ListN.{length, replicate}
 use Rattle.model.specs.Pairs.{Pair}
 use Rattle.model.specs.Model.{Model, Instance, Live, Arrival, Place, gone, held, find, put, liveIn, lives, count, push, window, asRead, listedIn, touch, listed, oldOf, arrived, roomy}
 use Rattle.model.specs.Story.{livesOf}
-use Rattle.model.proofs.Laws.{split, put-here, put-there, find-here, find-there}
+use Rattle.model.proofs.Laws.{put-here, put-there, find-here, find-there}
+use Rattle.model.specs.PairLaws.{split}
 
 abbrev pub bit : Bool → ℕ
 bit b = cond b 1 0

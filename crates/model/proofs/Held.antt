@@ -14,7 +14,8 @@ use Rattle.sampleinfo.specs.declared.InstanceState.{InstanceState}
 use Rattle.model.specs.Pairs.{Pair}
 use Rattle.model.specs.Model.{Model, Instance, Arrival, Call, Step, setUp, add, dies, look, list, after, held, fresh, issueOf, keyIn, stateIn, orFresh, find, arrived, liveOf, oldOf, slotOf, accept, left, listed, access, step}
 use Rattle.model.specs.Story.{livesOf, liveAt, Story, Entry, run, trace, came, bereft, noted, orNew, mapO, keepAfter, tell, tellAll, storyOf, entriesIn, entriesOf, holds, untaken, lastOf}
-use Rattle.model.proofs.Laws.{split, Done, turned, began, came as arrival, lost, looked, went, asked, done, find-name, find-put-same, find-put-other, find-map, placesOf, places-none, places-push, places-touch, places-hold}
+use Rattle.model.proofs.Laws.{Done, turned, began, came as arrival, lost, looked, went, asked, done, find-name, find-put-same, find-put-other, find-map, placesOf, places-none, places-push, places-touch, places-hold}
+use Rattle.model.specs.PairLaws.{split}
 
 -- the instance that a story comes to
 abbrev pub toldBy : Option ℕ → ℕ → Story → Instance

@@ -18,12 +18,11 @@ use Rattle.sampleinfo.specs.declared.ViewState.the-variants.{New, NotNew}
 use Rattle.sampleinfo.specs.declared.Info.{Info}
 use Rattle.model.specs.Pairs.{Pair}
 use Rattle.model.specs.Views.{rankFrom}
-use Rattle.model.specs.PairLaws.{in-append}
+use Rattle.model.specs.PairLaws.{in-append, split}
 use Rattle.model.specs.Model.{Model, Instance, Live, find, liveIn, lives, keyed, named, present, isLive, later, latest, latestTotal, instanceTotal, lastTotal, infoOf, infoAt, infosOf, infosFor, Edition, byTheRust, ranksAt}
 use Rattle.model.specs.BadLaws.{allLive}
 use Rattle.model.specs.Story.{livesOf, liveAt}
 use Rattle.model.specs.Demand3.{In, IsAt, AtPlace, Latest, Shows, timesHeld}
-use Rattle.model.proofs.Laws.{split}
 use Rattle.model.proofs.Refusals.{both, none-some}
 use Rattle.model.proofs.Choices.{found-in, in-found}
 

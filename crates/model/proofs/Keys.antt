@@ -13,10 +13,11 @@ use Rattle.model.specs.Pairs.{Pair}
 use Rattle.model.specs.Model.{Model, Arrival, Call, Step, setUp, add, dies, look, list, after, Answer, fresh, listedIn, issueOf, keyIn, refusalOf, accept, access, step}
 use Rattle.keys.specs.Keys.{Later}
 use Rattle.model.specs.Story.{liveAt, Event, Entry, Story, run, trace, accepted, issuedTo, keysFrom, allKeys, entryKeys, lastKey, Rises, AtMost, Every, mapO, touchEntry, noted, bereft, keepAfter, tell, tellAll, entriesIn, entriesOf, orNew, lastBy}
-use Rattle.model.proofs.Laws.{every-imp, every-append, every-map, every-last, every-untaken, split, Done, turned, began, came, lost, looked, went, asked, done, map-append, map-map, map-ext}
+use Rattle.model.proofs.Laws.{every-imp, every-append, every-map, every-last, every-untaken, Done, turned, began, came, lost, looked, went, asked, done, map-append, map-map, map-ext}
 use Rattle.model.proofs.Held.{holds-last}
 use Rattle.keys.specs.KeyLaws.{key-later}
 use Rattle.model.proofs.Refusals.{passed, issue-given}
+use Rattle.model.specs.PairLaws.{split}
 
 -- ---- rising lists
 later-trans : (o : Last) (k j : ℕ) → Later o k → k < j → Later o j

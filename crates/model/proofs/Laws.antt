@@ -14,12 +14,9 @@ use Rattle.readcondition.specs.declared.ReadCondition.{ReadCondition}
 use Rattle.model.specs.Pairs.{Pair}
 use Rattle.model.specs.Model.{Model, SetUp, Arrival, Answer, Call, Step, setUp, add, dies, look, list, after, ok, within, keepOf, fresh, settingUp, refusalOf, accept, refuse, reply, dying, adding, access, accessing, fine, step, next, nextName, choosing, scope, Instance, Place, gone, held, Live, find, put, liveIn, push, window, listedIn, touch}
 use Rattle.model.specs.Story.{Every, Entry, untaken, holds, lastBy, touchEntry, mapO}
+use Rattle.model.specs.PairLaws.{split}
 
 -- ---- a test is true or false
-pub split {ℓ} : {C : Type ℓ} (b : Bool) → (b ≡ true → C) → (b ≡ false → C) → C
-split true t f = t refl
-split false t f = f refl
-
 -- ---- find and put
 pub put-here : (j i : Instance) (is : List Instance) → eqb (i .name) (j .name) ≡ true → put j (i ∷ is) ≡ j ∷ is
 unfolding put

@@ -16,12 +16,12 @@ use Rattle.sampleinfo.specs.declared.Info.{Info}
 use Rattle.sampleinfo.specs.declared.Ranks.{Ranks}
 use Rattle.model.specs.Pairs.{Pair}
 use Rattle.model.specs.Views.{greater, viewed}
-use Rattle.model.specs.PairLaws.{among-in, repeats-distinct}
+use Rattle.model.specs.PairLaws.{among-in, repeats-distinct, split}
 use Rattle.model.specs.Model.{Model, Instance, Live, Place, gone, held, Step, refused, infos, list, refuse, find, liveIn, keyed, named, present, asRead, isLive, fine, infoAt, infosOf, infosFor, touch, listedIn, shown, accessed, listed, access, accessing, step, Edition, ranksAt}
 use Rattle.model.specs.BadLaws.{allLive, fine-is-both, fine-live, fine-once}
 use Rattle.model.specs.Story.{Every, mapO, livesOf, liveAt}
 use Rattle.model.specs.Demand3.{In, LivePair, Sound, names, takes, remains, Greatest, Viewed, AtPlace, Lists, timesHeld}
-use Rattle.model.proofs.Laws.{split, find-map, find-name}
+use Rattle.model.proofs.Laws.{find-map, find-name}
 use Rattle.model.proofs.Refusals.{number, ill, both}
 use Rattle.model.proofs.Infos.{infos-shown}
 

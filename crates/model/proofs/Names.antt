@@ -12,9 +12,10 @@ use Rattle.model.specs.Pairs.{Pair}
 use Rattle.model.specs.Model.{Model, Instance, Call, Step, fresh, find, put, left, listed, accept, access, step}
 use Rattle.model.specs.Story.{Story, run, trace, storyOf, mapO}
 use Rattle.model.specs.Demand3.{timesHeld}
-use Rattle.model.proofs.Laws.{split, newcomer, put-here, put-there, find-here, find-there, Done, turned, began, came, lost, looked, went, asked, done}
+use Rattle.model.proofs.Laws.{newcomer, put-here, put-there, find-here, find-there, Done, turned, began, came, lost, looked, went, asked, done}
 use Rattle.model.proofs.Held.{toldBy, instance-told}
 use Rattle.model.proofs.Refusals.{none-some}
+use Rattle.model.specs.PairLaws.{split}
 
 times-put : (n : ℕ) (j : Instance) (is : List Instance) → timesHeld n (put j is) ≡ cond (eqb (j .name) n) (newcomer (find (j .name) is)) 0 + timesHeld n is
 unfolding put find timesHeld

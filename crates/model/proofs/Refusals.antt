@@ -3,27 +3,27 @@ use mathlib.Core.Path.{_≡_, refl, sym, ap, _∙_}
 use mathlib.Core.Logic.{_↔_, _⊎_, inl, inr}
 use mathlib.Core.Bool.{Bool, true, false, not, _&&_, cond, and-eq-true-iff, true≢false}
 use mathlib.Core.Option.{Option, some, none}
-use Prim.Native.Nat.{ℕ, _+_, _^_, _≤_, _<_}
+use Prim.Native.Nat.{ℕ, _^_, _≤_, _<_}
 use native.Mathlib.Decide.{decLt}
 use native.Mathlib.Omega.{arith}
 use lib.ListN.{length}
-use lib.Dec.{leb, ltb, eqb}
-use borrow.Author.Tests.{ltb-true, ltb-false, lt-ltb, leb-true, leb-false, le-leb}
+use lib.Dec.{leb, eqb}
+use borrow.Author.Tests.{ltb-true, lt-ltb, leb-true, leb-false, le-leb}
 use Rattle.sampleinfo.specs.States.{madeBy}
 use Rattle.sampleinfo.specs.Counts.{total}
 use Rattle.sampleinfo.specs.Lifecycle.{stateOf, countsOf, isReborn, isLast}
 use Rattle.sampleinfo.specs.declared.Body.{Body}
 use Rattle.sampleinfo.specs.declared.Body.the-variants.{Value, Dispose}
-use Rattle.keys.specs.Keys.{keyOf, Later, issuedNumber}
+use Rattle.keys.specs.Keys.{keyOf, issuedNumber}
 use Rattle.keys.specs.KeyLaws.{key-later, key-fits, refused-none}
-use Rattle.keys.specs.declared.Last.{Last}
 use Rattle.keys.specs.declared.Last.the-variants as last
 use Rattle.keys.specs.declared.Issued.{Issued}
 use Rattle.keys.specs.declared.Issued.the-variants as issued
 use Rattle.model.specs.Model.{Model, Instance, SetUp, Arrival, Call, Step, setUp, add, Answer, refused, ok, added, find, lives, isNew, unkept, noKey, keyIn, issueOf, stateIn, wellFormed, oldOf, refusalOf, within, keepOf, fresh, settingUp, accept, adding, access, step}
 use Rattle.model.specs.Bounds.{and-is, or-is, le-is, eq-is, accepted}
 use Rattle.model.specs.Demand3.{Sets, WellFormed, NoLaterKey, NoRoom, LastRebirth, NoSlot, Exactly}
-use Rattle.model.proofs.Laws.{split, Done, turned, began, came, lost, looked, went, asked, done}
+use Rattle.model.proofs.Laws.{Done, turned, began, came, lost, looked, went, asked, done}
+use Rattle.model.specs.PairLaws.{split}
 
 -- ---- a refused call changes nothing
 refused-done : {m : Model} {c : Call} {x : Step} (r : ℕ) → Done m c x → x .answer ≡ refused r → x .then ≡ m

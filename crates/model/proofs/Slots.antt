@@ -17,10 +17,11 @@ use Rattle.model.specs.Model.{Model, Instance, SetUp, Live, Arrival, Pla
 use Rattle.keys.specs.Keys.{Later}
 use Rattle.model.specs.Story.{run, Every, livesOf}
 use Rattle.model.specs.Demand3.{Bounded, Lowest, hasKey}
-use Rattle.model.proofs.Laws.{every-find, every-put, newcomer, split, put-here, put-there, find-here, find-there, find-name, Done, turned, began, came, lost, looked, went, asked, done}
+use Rattle.model.proofs.Laws.{every-find, every-put, newcomer, put-here, put-there, find-here, find-there, find-name, Done, turned, began, came, lost, looked, went, asked, done}
 use Rattle.keys.specs.KeyLaws.{key-later}
 use Rattle.model.proofs.Refusals.{passed, both, issue-given}
 use Rattle.model.proofs.Counting.{bit, Pushable, new, count-append, count-put, count-places, count-listed, count-true, count-length, roomy-count, new-count}
+use Rattle.model.specs.PairLaws.{split}
 
 -- ---- the lowest free slot
 -- every slot from k up to the answer is in use, and the answer is free if it is one of the n

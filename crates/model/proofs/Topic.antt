@@ -1,10 +1,10 @@
 -- The topic cache keeps its promises. A call is taken apart once, by the view `Done`; then each promise is a lemma by its cases.
 use mathlib.Core.Path.{_≡_, refl, sym, ap, _∙_, subst}
 use mathlib.Core.Logic.{_↔_, _⊎_, inl, inr}
-use mathlib.Core.Bool.{Bool, true, false, _&&_, _||_, cond, or-true, or-false}
+use mathlib.Core.Bool.{Bool, true, false, _&&_, _||_, cond, or-true}
 use mathlib.Core.List.{List, [], _∷_, _++_, append-nil}
 use mathlib.Core.Option.{Option, some, none}
-use Prim.Native.Nat.{ℕ, zero, suc, _+_, _-_, _*_, _^_, _/_, _%_, _≤_, _<_, max, min}
+use Prim.Native.Nat.{ℕ, zero, suc, _+_, _-_, _^_, _/_, _%_, _≤_, _<_, max, min}
 use native.Mathlib.Omega.{arith}
 use borrow.Author.Tests.{ltb-true, leb-true, leb-false, le-leb, lt-leb, lt-ltb, eqb-true, eq-eqb}
 use lib.ListN.{length, drop, length-drop, length-append}
@@ -21,10 +21,7 @@ use Rattle.model.specs.TopicPromises.{run, keyIn, issuedBy, Rises, keysO
 use Rattle.model.specs.TopicPromises.{AtLeast, Higher, LimitBounds, Raised, Greater}
 use Rattle.model.specs.TopicPromises.{InRange, MultipleOf, Collects, small, medium, large, full, First, collecting, as-it-is, heldIn}
 use Rattle.model.specs.TopicPromises.{AddAnswers, UpdateAnswers, RangeAnswers, Leaves, TopicPromises}
-
-split {ℓ} : {C : Type ℓ} (b : Bool) → (b ≡ true → C) → (b ≡ false → C) → C
-split true t f = t refl
-split false t f = f refl
+use Rattle.model.specs.PairLaws.{split}
 
 -- ---- a call taken apart
 
@@ -205,7 +202,7 @@ pub record Fits (c : Topic) : Type 0 where
   pub few : length (c .entries) ≤ places
   pub most : c .limits .most ≤ 256
 
-must-le : (l : Limits) (t : ℕ) (es : List Entry) → length es - l .most ≤ removal l t es
+pub must-le : (l : Limits) (t : ℕ) (es : List Entry) → length es - l .most ≤ removal l t es
 unfolding removal
 must-le l t es = omega arith
 
@@ -328,11 +325,11 @@ keyed-run c (x ∷ xs) k h = let d = keyed-done c (done c x) k h in keyed-run (s
 keyed-fresh : (l : Limits) → Keyed 0 (fresh l)
 keyed-fresh l = record { issued = refl; rise = λ n h. (h, tt) }
 
-within-cons : (s t : ℕ) (e : Entry) (es : List Entry) → within s t (e ∷ es) ≡ cond (ltb s (e .key) && leb (e .key) t) (e ∷ within s t es) (within s t es)
+pub within-cons : (s t : ℕ) (e : Entry) (es : List Entry) → within s t (e ∷ es) ≡ cond (ltb s (e .key) && leb (e .key) t) (e ∷ within s t es) (within s t es)
 unfolding within
 within-cons s t e es = refl
 
-within-nil : (s t : ℕ) → within s t [] ≡ []
+pub within-nil : (s t : ℕ) → within s t [] ≡ []
 unfolding within
 within-nil s t = refl
 

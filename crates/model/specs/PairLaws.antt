@@ -11,7 +11,7 @@ use Rattle.model.specs.Pairs.{Pair, samePair, among, repeats, Hit, earli
 use Rattle.model.specs.Story.{Every}
 use Rattle.model.specs.Demand3.{In, Distinct}
 
-split {ℓ} : {C : Type ℓ} (b : Bool) → (b ≡ true → C) → (b ≡ false → C) → C
+pub split {ℓ} : {C : Type ℓ} (b : Bool) → (b ≡ true → C) → (b ≡ false → C) → C
 split true t f = t refl
 split false t f = f refl
 

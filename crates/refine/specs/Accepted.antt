@@ -19,8 +19,8 @@ use Rattle.model.proofs.Slots.{length-push, length-put, lowest-below, lowest-fr
 use Rattle.model.proofs.Laws.{newcomer, find-there, find-here, put-there, put-here}
 use Rattle.model.proofs.Refusals.{issue-given, passed}
 use Rattle.model.proofs.Counting.{new-count, new, count-true, Pushable, count-append, count-places}
+use Rattle.model.specs.PairLaws.{split}
 use Rattle.refine.specs.Good.{Good, Sized}
-use Rattle.refine.specs.Tables.{split}
 use Rattle.refine.specs.Counting.{roomy-all}
 
 -- ---- the tests, in order

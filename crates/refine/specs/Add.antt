@@ -22,11 +22,12 @@ use Rattle.model.specs.Model.{Model, Instance, Live, Arrival, Place, gone, held
 use Rattle.model.proofs.Slots.{lowest-below, lowest-free, not-reached}
 use Rattle.model.proofs.Counting.{roomy-count, new, count-true, count-append, window-live}
 use Rattle.model.specs.Demand3.{hasKey}
+use Rattle.model.specs.PairLaws.{split}
 use Rattle.store.specs.Store as S
 use Rattle.store.specs.Store.{Inst, placeOf, freshInst, declined, movedOn}
 use Rattle.refine.specs.Layout.{cellsOf, instOf, Entry, entry, entriesFrom, entriesOf, lookUp, tabFrom, slotsOf, slotOrNone, freeOf, keyOf, ownerOf, sampleOf, newestOf, storeOf, tableOf}
 use Rattle.refine.specs.Good.{Good}
-use Rattle.refine.specs.Tables.{bit-le, split, livesIn, uses, uses-append, uses-here, look-here, slot-at}
+use Rattle.refine.specs.Tables.{bit-le, livesIn, uses, uses-append, uses-here, look-here, slot-at}
 use Rattle.refine.specs.Entries.{map-append, lives-of, before, behind, among, entries-put, entries-at, insts, put-is, find-is, new-is, name-is, place-le}
 use Rattle.refine.specs.Counting.{roomy-all, short-of}
 use Rattle.refine.specs.Accepted.{key-new, pushable, roomy-short, slot-free}

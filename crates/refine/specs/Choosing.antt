@@ -13,8 +13,9 @@ use Rattle.model.specs.Pairs.{Hit, insert, sorted}
 use Rattle.pairs.specs.OrderLaws.{OtherKey, sorted-move}
 use Rattle.model.specs.Model.{Live, count}
 use Rattle.model.specs.Demand3.{hasKey}
+use Rattle.model.specs.PairLaws.{split}
 use Rattle.refine.specs.Layout.{Entry, lookUp}
-use Rattle.refine.specs.Tables.{split, livesIn, uses, look-none, look-here}
+use Rattle.refine.specs.Tables.{livesIn, uses, look-none, look-here}
 use Rattle.refine.specs.GoodLaws.{bit-one}
 use Rattle.refine.specs.Unique.{none-counted}
 use Rattle.refine.specs.Found.{every-left, every-under, every-look}

@@ -12,7 +12,8 @@ use Rattle.lists.specs.Count.{bit}
 use Rattle.model.specs.Model.{Model, Live, Arrival, Place, gone, find, put, liveIn, lives, count, inSlot, lowestFrom, push, oldOf, arrived, roomy}
 use Rattle.model.proofs.Slots.{count-below, below, lowest-free}
 use Rattle.model.proofs.Counting.{old-count, count-append, count-put}
-use Rattle.refine.specs.Tables.{split, bit-le}
+use Rattle.model.specs.PairLaws.{split}
+use Rattle.refine.specs.Tables.{bit-le}
 use Rattle.refine.specs.Entries.{live-append}
 
 -- ---- find and put, a step at a time

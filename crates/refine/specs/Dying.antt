@@ -105,14 +105,10 @@ module _ (m : Model) (n : ℕ) where
 
 -- ---- the next name
 
-least-is : (o : Option ℕ) (n : ℕ) → S.least o n ≡ M.least o n
-least-is none n = refl
-least-is (some k) n = refl
-
 next-in : (k : Option ℕ) (n : ℕ) (is : List Instance) → S.nextName n (insts k is) ≡ nextName n is
 unfolding S.nextName nextName
 next-in k n [] = refl
-next-in k n (i ∷ is) = rw (next-in k n is, least-is (nextName n is) (i .name))
+next-in k n (i ∷ is) = rw (next-in k n is)
 
 pub next-is : (m : Model) (n : ℕ) → S.nextName n (storeOf m .insts) ≡ nextName n (m .instances)
 unfolding storeOf

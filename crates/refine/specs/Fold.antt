@@ -10,10 +10,10 @@ use lib.Dec.{eqb}
 use Rattle.model.specs.Pairs.{Pair, among, repeats, samePair}
 use Rattle.model.specs.Model.{Model, Instance, Live, Place, gone, held, find, liveIn, keyed, named, present, isLive, fine, mark, touch}
 use Rattle.model.specs.BadLaws.{allLive, fine-is-both, fine-live, fine-once}
+use Rattle.model.specs.PairLaws.{split}
 use Rattle.store.specs.Store.{slotNamed, freed}
 use Rattle.refine.specs.Layout.{slotOrNone, storeOf, tableOf}
 use Rattle.refine.specs.Good.{Good}
-use Rattle.refine.specs.Tables.{split}
 use Rattle.refine.specs.Entries.{found-name}
 use Rattle.refine.specs.Named.{slot-named, insts-of, Known, known}
 use Rattle.refine.specs.Touch.{touchedIn, touchedBy, touched-none, touched-more, good-touched, touch-own, touch-other}

@@ -31,8 +31,8 @@ use Rattle.model.proofs.Laws.{newcomer, find-there, find-here}
 use Rattle.model.proofs.Refusals.{passed}
 use Rattle.model.proofs.Counting.{new-count, roomy-count, old-count, new, count-append, count-put, count-listed, window-live}
 use Rattle.model.specs.Demand3.{timesHeld, hasKey}
+use Rattle.model.specs.PairLaws.{split}
 use Rattle.refine.specs.Good.{Good, Sized, Rising, Bounded, InOrder}
-use Rattle.refine.specs.Tables.{split}
 use Rattle.refine.specs.Entries.{live-append, found-name}
 use Rattle.refine.specs.Accepted.{key-new, every-find, every-put, every-old, pushable, new-sized, new-few, slot-below, slot-free}
 

@@ -18,11 +18,12 @@ use Rattle.model.specs.Model.{Model, Live, lives, count, keyed, later, latest, 
 use Rattle.model.proofs.Counting.{count-append}
 use Rattle.model.proofs.Slots.{reached}
 use Rattle.model.specs.Demand3.{hasKey}
+use Rattle.model.specs.PairLaws.{split}
 use Rattle.store.specs.Store.{Store, laterSlot, greatestFrom, latestSlot}
 use Rattle.refine.specs.Layout.{Entry, entriesOf, lookUp, slotOrNone, freeOf, keyOf, sampleOf, newestOf, storeOf, tableOf}
 use Rattle.refine.specs.Good.{Good}
 use Rattle.refine.specs.GoodLaws.{all-reached}
-use Rattle.refine.specs.Tables.{split, length-slots}
+use Rattle.refine.specs.Tables.{length-slots}
 use Rattle.refine.specs.Entries.{lives-of}
 use Rattle.refine.specs.Add.{keyed-here}
 use Rattle.refine.specs.Found.{every-over, every-under, every-keyed, every-look, look-slot, keyed-key, Placed, every-placed}

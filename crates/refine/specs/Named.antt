@@ -16,10 +16,11 @@ use Rattle.model.specs.Model.{Model, Instance, Live, Place, gone, held, find, l
 use Rattle.model.proofs.Counting.{count-append}
 use Rattle.model.proofs.Slots.{reached}
 use Rattle.model.specs.Demand3.{hasKey}
+use Rattle.model.specs.PairLaws.{split}
 use Rattle.store.specs.Store.{Inst, Store, placeOf, noInst, cellKeyed, slotKeyed, slotOfKey, slotNamed, instAt}
 use Rattle.refine.specs.Layout.{cellOf, instOf, Entry, entry, entriesOf, lookUp, slotOrNone, freeOf, keyOf, ownerOf, sampleOf, storeOf, tableOf}
 use Rattle.refine.specs.Good.{Good}
-use Rattle.refine.specs.Tables.{bit-le, split, livesIn, slot-at}
+use Rattle.refine.specs.Tables.{bit-le, livesIn, slot-at}
 use Rattle.refine.specs.Entries.{lives-of, lives-entry, map-append, insts, unknown-at}
 use Rattle.refine.specs.FitOf.{get-inst, nobody}
 use Rattle.refine.specs.Unique.{keyed-skip, keyed-first, keyed-counted, unkeyed, unique, places-below, places-from}

@@ -16,14 +16,15 @@ use Rattle.sampleinfo.specs.declared.Sample.{Sample}
 use Rattle.sampleinfo.specs.declared.InstanceMetaData.{InstanceMetaData}
 use Rattle.keys.specs.declared.Last.{Last}
 use Rattle.model.specs.Model.{Model, Instance, Live, Place, gone, held, liveIn}
+use Rattle.model.specs.PairLaws.{split}
+use Rattle.model.proofs.Laws.{map-ext}
 use Rattle.store.specs.Store.{Inst, Store, noInst}
 use Rattle.refine.specs.Layout.{cellOf, cellsOf, instOf, Entry, entry, entriesOf, lookUp, freeOf, keyOf, ownerOf, sampleOf, storeOf, tableOf}
 use Rattle.refine.specs.Good.{Good, Rising, InOrder}
-use Rattle.refine.specs.Tables.{split, look-none}
+use Rattle.refine.specs.Tables.{look-none}
 use Rattle.refine.specs.Entries.{insts, before, behind, entries-at}
 use Rattle.refine.specs.FitOf.{every-at, get-inst, nobody}
 use Rattle.refine.specs.Dying.{nobody-live}
-use Rattle.refine.specs.Touch.{map-ext}
 use Rattle.refine.specs.Unique.{places-below, places-from}
 use Rattle.refine.specs.Found.{every-left, every-right, every-under, every-over, every-look, look-slot, Placed, entry-slots, every-placed}
 use Rattle.refine.specs.Named.{free-at, key-at, owner-at, record-at, insts-of}

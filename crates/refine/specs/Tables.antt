@@ -13,11 +13,8 @@ use lib.Seq.{getD-set-same, getD-set-other, ext-getD}
 use lib.Dec.{eqb}
 use Rattle.lists.specs.Count.{bit}
 use Rattle.model.specs.Model.{Live, count, inSlot}
+use Rattle.model.specs.PairLaws.{split}
 use Rattle.refine.specs.Layout.{Entry, lookUp, tabFrom, slotsOf}
-
-pub split {ℓ} : {C : Type ℓ} (b : Bool) → (b ≡ true → C) → (b ≡ false → C) → C
-split true t f = t refl
-split false t f = f refl
 
 pub bit-le : (b : Bool) → bit b ≤ 1
 bit-le true = omega arith

@@ -19,11 +19,12 @@ use Rattle.model.specs.Pairs.{Pair}
 use Rattle.model.specs.Model.{Model, Instance, Live, Place, gone, held, find, liveIn, lives, count, inSlot, keyed, asRead, touch}
 use Rattle.model.proofs.Counting.{count-append}
 use Rattle.model.specs.Demand3.{hasKey}
+use Rattle.model.specs.PairLaws.{split}
 use Rattle.store.specs.Store as S
 use Rattle.store.specs.Store.{Inst, placeOf, emptied, freed, instAt}
 use Rattle.refine.specs.Layout.{cellOf, cellsOf, instOf, Entry, entry, entriesFrom, entriesOf, lookUp, tabFrom, slotsOf, slotOrNone, freeOf, keyOf, ownerOf, sampleOf, newestOf, storeOf, tableOf}
 use Rattle.refine.specs.Good.{Good}
-use Rattle.refine.specs.Tables.{bit-le, split, livesIn, uses, uses-here, slots-less, slots-swap}
+use Rattle.refine.specs.Tables.{bit-le, livesIn, uses, uses-here, slots-less, slots-swap}
 use Rattle.refine.specs.Entries.{map-append, found-name, lives-of, insts, entries-put}
 use Rattle.refine.specs.FitOf.{in-a-slot}
 use Rattle.refine.specs.Add.{keyed-here}

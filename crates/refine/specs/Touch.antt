@@ -14,10 +14,11 @@ use Rattle.model.specs.Pairs.{Pair, among, samePair}
 use Rattle.model.specs.Model.{Model, Instance, Live, Place, gone, held, find, lives, count, inSlot, asRead, mark, listedIn, touch}
 use Rattle.model.proofs.Counting.{count-append, count-touch}
 use Rattle.model.specs.Demand3.{timesHeld, hasKey}
+use Rattle.model.proofs.Laws.{map-ext}
+use Rattle.model.specs.PairLaws.{split}
 use Rattle.store.specs.Store.{placeOf}
 use Rattle.refine.specs.Good.{Good, Sized, Bounded, InOrder}
 use Rattle.refine.specs.GoodLaws.{rising-touch}
-use Rattle.refine.specs.Tables.{split}
 use Rattle.refine.specs.Entries.{insts}
 
 -- the places that the list names are touched, and no instance's record
@@ -32,10 +33,6 @@ touchedBy t m ps = record { keep = m .keep; room = m .room; last = m .last; inst
 pub map-map {ℓ} : {A B C : Type ℓ} (f : B → C) (g : A → B) (l : List A) → map f (map g l) ≡ map (λ a. f (g a)) l
 map-map f g [] = refl
 map-map f g (a ∷ l) = ap (λ r. f (g a) ∷ r) (map-map f g l)
-
-pub map-ext {ℓ} : {A B : Type ℓ} (f g : A → B) → ((a : A) → f a ≡ g a) → (l : List A) → map f l ≡ map g l
-map-ext f g e [] = refl
-map-ext f g e (a ∷ l) = rw (e a, map-ext f g e l)
 
 touch-more : (t : Bool) (n : ℕ) (p : Pair) (ps : List Pair) (x : Place) → touch t n (p ∷ ps) x ≡ touch t n ps (touch t n (p ∷ []) x)
 unfolding among

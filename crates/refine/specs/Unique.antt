@@ -12,8 +12,8 @@ use Rattle.lists.specs.Every.{Every, every-append, every-map}
 use Rattle.lists.specs.Count.{bit}
 use Rattle.model.specs.Model.{Instance, Live, liveIn, count, keyed}
 use Rattle.model.specs.Demand3.{hasKey}
+use Rattle.model.specs.PairLaws.{split}
 use Rattle.refine.specs.Layout.{entry, entriesFrom}
-use Rattle.refine.specs.Tables.{split}
 use Rattle.refine.specs.Found.{every-over, every-all}
 
 module _ (k : ℕ) where

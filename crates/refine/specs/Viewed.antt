@@ -19,10 +19,10 @@ use Rattle.model.specs.Model.{Model, Instance, Live, find, liveIn, lives, count
 use Rattle.model.specs.BadLaws.{allLive, fine-live}
 use Rattle.model.specs.Story.{livesOf}
 use Rattle.model.specs.Demand3.{timesHeld, hasKey}
+use Rattle.model.specs.PairLaws.{split}
 use Rattle.store.specs.Store.{Inst, Store, placeOf, noInst, slotNamed, withMeta, withAccessed}
 use Rattle.refine.specs.Layout.{instOf, entriesFrom, slotsOf, sampleOf, storeOf, tableOf}
 use Rattle.refine.specs.Good.{Good}
-use Rattle.refine.specs.Tables.{split}
 use Rattle.refine.specs.Entries.{insts, found-at, found-name}
 use Rattle.refine.specs.GoodLaws.{count-find}
 use Rattle.refine.specs.FitOf.{nobody}

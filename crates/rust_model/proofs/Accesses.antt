@@ -18,13 +18,13 @@ use Rattle.sampleinfo.specs.declared.InstanceState.{InstanceState}
 use Rattle.sampleinfo.specs.declared.Info.{Info}
 use Rattle.sampleinfo.specs.declared.Sample.{Sample}
 use Rattle.model.specs.Pairs.{Pair}
-use Rattle.model.specs.PairLaws.{pair-is, repeats-distinct}
+use Rattle.model.specs.PairLaws.{pair-is, repeats-distinct, split}
 use Rattle.model.specs.Views.{rankFrom, viewed}
 use Rattle.model.specs.Model.{Model, Live, Instance, find, nextName, liveIn, lives, keyed, named, present, isLive, fine, latest, latestTotal, lastTotal, viewIn, infoOf, infoAt, infosOf, infosFor, shown, touch, listed, access, Edition, byTheRust, ranksAt}
 use Rattle.model.specs.BadLaws.{allLive, fine-live, fine-once}
 use Rattle.model.specs.Story.{Entry as Told, Every, AtMost, mapO, untaken, entryKeys, touchEntry}
 use Rattle.model.specs.Demand3.{In, Distinct, timesHeld}
-use Rattle.model.proofs.Laws.{split, every-imp, find-name, find-map, placesOf, places-touch}
+use Rattle.model.proofs.Laws.{every-imp, find-name, find-map, placesOf, places-touch}
 use Rattle.model.proofs.Refusals.{both, none-some}
 use Rattle.rust_model.specs.Maps.{Outcome, gives, try, unwrap, Entry, get, lastEntry, orLast, firstAbove}
 use Rattle.rust_model.specs.DataSampleCache.{InstanceMetaData, SampleWithMetaData, DataSamples, DataSampleCache, Generations, Pass, Results, keepCount, «make_sample_info», «record_instance_generation_viewed», «mark_instances_viewed», accessed, pass, lastOf, byKeys}

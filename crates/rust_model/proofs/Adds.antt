@@ -24,8 +24,9 @@ use Rattle.keys.specs.declared.Last.the-variants as last
 use Rattle.model.specs.Model.{Model, Live, Instance, Arrival, Place, held, find, put, least, nextName, bodyIn, stateIn, noKey, keyIn, issueOf, orFresh, oldOf, refusalOf, arrived, slotOf, liveOf, accept, push, pushedOut}
 use Rattle.model.specs.Story.{Every, AtMost, untaken, entryKeys, lastKey, livesOf, liveAt}
 use Rattle.model.specs.Demand3.{In}
-use Rattle.model.proofs.Laws.{split, every-imp, every-append, find-put-same, find-put-other, placesOf, places-none}
+use Rattle.model.proofs.Laws.{every-imp, every-append, find-put-same, find-put-other, placesOf, places-none}
 use Rattle.model.proofs.Keys.{key-new, at-most-later, at-most-below}
+use Rattle.model.specs.PairLaws.{split}
 use Rattle.rust_model.specs.Maps.{Entry, entry, get, insert, lastEntry, orLast, insertStamp}
 use Rattle.rust_model.specs.DataSampleCache.{InstanceMetaData, SampleWithMetaData, DataSamples, DataSampleCache, Added, receiveTimestamp, newInstanceState, orNew, generations, updated, keepCount, keysToRemove, removeStamps, removeSamples, removedHandles, withSamples, receivedAs, inserted, «add_sample»}
 use Rattle.rust_model.specs.Ground.{LastLives}

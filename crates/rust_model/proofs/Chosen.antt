@@ -22,11 +22,11 @@ use Rattle.readcondition.specs.declared.ReadCondition.{ReadCondition}
 use Rattle.lists.specs.Insert.{insertBy}
 use Rattle.lists.specs.Sort.{Strict, insert-comm}
 use Rattle.model.specs.Pairs.{Hit, earlier, insert, sorted, pairsIn}
-use Rattle.model.specs.PairLaws.{Before, earlier-before, not-earlier, before-trans, before-not}
+use Rattle.model.specs.PairLaws.{Before, earlier-before, not-earlier, before-trans, before-not, split}
 use Rattle.model.specs.Views.{viewOf}
 use Rattle.model.specs.Model.{Live, Instance, liveIn, chosen, hitOf, hitsIn, hits}
 use Rattle.model.specs.Story.{Entry as Told, Every, untaken, entryKeys}
-use Rattle.model.proofs.Laws.{split, every-imp}
+use Rattle.model.proofs.Laws.{every-imp}
 use Rattle.readcondition.specs.MaskLaws.{any-instance, any-view, any-sample}
 use Rattle.rust_model.specs.Maps.{gives, get}
 use Rattle.rust_model.specs.DataSampleCache.{InstanceMetaData, SampleWithMetaData, DataSamples, InstanceMap, isNew, viewState, «sample_selector», cachedKeys, insertStable, sortByCachedKey, «sort_by_sequence_number», selectedKeys, selectedStamps}

@@ -16,10 +16,11 @@ use Rattle.model.specs.Pairs.{Pair}
 use Rattle.model.specs.Model.{Model, Instance, Arrival, Call, setUp, add, dies, look, list, after, selected, countsKept, countsNone, keepFits, isZero, depthOf, within, keepOf, fresh, find, nextName, refusalOf, accept, adding, scope, choices, choosing, fine, infosFor, access, accessing, step, answers}
 use Rattle.model.specs.Story.{untaken, livesOf, liveAt, run, trace, accepted, allKeys, lastKey}
 use Rattle.model.specs.Demand3.{timesHeld}
-use Rattle.model.proofs.Laws.{split}
 use Rattle.model.proofs.Refusals.{both, passed}
 use Rattle.model.proofs.Keys.{last-is-last}
 use Rattle.model.proofs.Names.{held-once}
+use Rattle.model.specs.PairLaws.{split}
+use Rattle.rust_model.proofs.Topics.{not-so}
 use Rattle.rust_model.specs.Maps.{gives, entry, get, lastEntry, firstAbove}
 use Rattle.rust_model.specs.DataSampleCache.{KeepAll, KeepLast, InstanceMetaData, DataSamples, DataSampleCache, historyLimit, or, new, receiveTimestamp}
 use Rattle.rust_model.specs.Ground.{Stands, Ground}
@@ -59,9 +60,6 @@ record Turns (m : Model) (c : DataSampleCache) (x : Call) : Type 0 where
   called : call c x ≡ gives done
   told : done .reply ≡ seen ((step m x) .answer)
   alike : Alike ((step m x) .then) (done .cache) log
-
-not-so {ℓ} : {C : Type ℓ} (b : Bool) → b ≡ false → b ≡ true → C
-not-so b p q = absurd (true≢false (sym q ∙ p))
 
 module _ (m : Model) (c : DataSampleCache) (log : List Kept) (h : Alike m c log) where
   turns-add : (ks : List ℕ) → m .last ≡ lastKey last.Never ks → (a : Arrival) → Stands m ks (add a) → accepted ((step m (add a)) .answer) ≡ true → Turns m c (add a)

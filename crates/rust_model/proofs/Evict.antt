@@ -10,7 +10,8 @@ use lib.Dec.{eqb, ltb}
 use borrow.Author.Tests.{eqb-true, ltb-true, ltb-false}
 use Rattle.model.specs.Model.{Place, gone, held, push, pushedOut}
 use Rattle.model.specs.Story.{Entry as Told, Every, entryKeys}
-use Rattle.model.proofs.Laws.{split, every-append, placeOf, placesOf, places-push, drop-replicate-append, map-append}
+use Rattle.model.proofs.Laws.{every-append, placeOf, placesOf, places-push, drop-replicate-append, map-append}
+use Rattle.model.specs.PairLaws.{split}
 use Rattle.rust_model.specs.Maps.{entry, get, remove, removeStamp}
 use Rattle.rust_model.specs.DataSampleCache.{DataSamples, keysToRemove, removeStamps, removeSamples, removedHandles, handleIn}
 use Rattle.rust_model.specs.Equal.{handles}

@@ -11,7 +11,8 @@ use borrow.Author.Tests.{eqb-true, eq-eqb}
 use Rattle.model.specs.Model.{Instance, find}
 use Rattle.model.specs.Story.{Every}
 use Rattle.model.specs.Demand3.{timesHeld}
-use Rattle.model.proofs.Laws.{split, find-here, find-there}
+use Rattle.model.proofs.Laws.{find-here, find-there}
+use Rattle.model.specs.PairLaws.{split}
 use Rattle.rust_model.proofs.MapLaws.{same-eqb, eqb-swap}
 use Rattle.rust_model.proofs.Alike.{Kept, keyAt, Rising}
 

@@ -9,7 +9,7 @@ use lib.Dec.{eqb, ltb}
 use borrow.Author.Tests.{ltb-false, lt-ltb, le-ltb}
 use Rattle.model.specs.Model.{Live, Instance, liveIn, lives, later, latest}
 use Rattle.model.specs.Story.{Every, untaken}
-use Rattle.model.proofs.Laws.{split}
+use Rattle.model.specs.PairLaws.{split}
 use Rattle.rust_model.specs.Maps.{Entry, entry, lastEntry, orLast}
 use Rattle.rust_model.specs.DataSampleCache.{SampleWithMetaData}
 use Rattle.rust_model.proofs.Alike.{Kept, keyAt, mine, stored, samples, Rising}

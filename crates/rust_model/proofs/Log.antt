@@ -10,7 +10,8 @@ use lib.Dec.{eqb}
 use borrow.Author.Tests.{eqb-true}
 use Rattle.model.specs.Model.{Instance, liveIn}
 use Rattle.model.specs.Story.{Entry as Told, Every, untaken, entryKeys, lastBy}
-use Rattle.model.proofs.Laws.{split, placesOf, places-hold}
+use Rattle.model.proofs.Laws.{placesOf, places-hold}
+use Rattle.model.specs.PairLaws.{split}
 use Rattle.rust_model.specs.Maps.{Entry, entry, get, remove}
 use Rattle.rust_model.specs.DataSampleCache.{SampleWithMetaData}
 use Rattle.rust_model.proofs.MapLaws.{same-eqb, above-eqb, get-none, remove-none}

@@ -12,7 +12,8 @@ use Rattle.model.specs.Pairs.{Pair, Hit, sorted, pairsIn}
 use Rattle.model.specs.Model.{Model, Live, Instance, find, liveIn, chosen, hits, one, scope, choices}
 use Rattle.model.specs.Story.{Entry as Told, Every, untaken}
 use Rattle.model.specs.Demand3.{timesHeld}
-use Rattle.model.proofs.Laws.{split, every-imp, find-name}
+use Rattle.model.proofs.Laws.{every-imp, find-name}
+use Rattle.model.specs.PairLaws.{split}
 use Rattle.rust_model.specs.Maps.{Outcome, gives, try, get}
 use Rattle.rust_model.specs.DataSampleCache.{InstanceMetaData, DataSamples, DataSampleCache, «sort_by_sequence_number», selectedKeys, «select_keys_for_access», selectedStamps, selectedWithin, «select_instance_keys_for_access»}
 use Rattle.rust_model.proofs.MapLaws.{same-eqb}

@@ -9,7 +9,7 @@ use lib.Dec.{eqb, ltb}
 use borrow.Author.Tests.{eqb-true, eq-eqb, ne-eqb, eqb-false, ltb-true, ltb-false, lt-ltb, le-ltb}
 use Rattle.model.specs.Model.{least}
 use Rattle.model.specs.Story.{Every, mapO}
-use Rattle.model.proofs.Laws.{split}
+use Rattle.model.specs.PairLaws.{split}
 use Rattle.rust_model.specs.Maps.{Entry, entry, get, insert, remove, modify, firstAbove, insertStamp, removeStamp}
 
 -- ---- tests

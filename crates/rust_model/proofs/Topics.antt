@@ -21,8 +21,9 @@ use Rattle.keys.specs.declared.Issued.the-variants as issued
 use Rattle.model.specs.Topic.{Limits, defaults}
 use Rattle.model.specs.Topic.{Entry, Topic, Change, places, inBounds, depthFits, limitsFit, raisedTo, deeper, mustRemove, mayRemove, mayFor, countBelow, removal, removedBefore, collects, collectedFor, sameBytes, holdsPair, entryOf, seqFits, Call, update, add, removeBefore, range, Step, issuing, adding, fresh, within, step}
 use Rattle.model.specs.Story.{Every}
-use Rattle.model.proofs.Laws.{split, every-imp, every-append, every-drop, map-append}
+use Rattle.model.proofs.Laws.{every-imp, every-append, every-drop, map-append}
 use Rattle.model.proofs.Refusals.{both}
+use Rattle.model.specs.PairLaws.{split}
 use Rattle.rust_model.specs.Maps.{get, insert}
 use Rattle.rust_model.specs.DataSampleCache.{History, KeepLast}
 use Rattle.rust_model.specs.TopicCache.{CacheChange, Changes, Indexed, TopicCache, QosPolicies, Added, atLeast, maxHistory, new, isFor, «find_by_sn», «remove_sn», «insert_sn», oldestToRetain, splitOff, leftBefore, toRetain, toRemove, removeSns, «remove_changes_before», modulus, gcTriggered, collected, keyFor, withoutOld, addingUnless, saneStart, inRange}
@@ -419,7 +420,7 @@ record Turns (t : Topic) (c : TopicCache) (x : Call) : Type 0 where
   told : (call c x) .reply ≡ seen ((step t x) .answer)
   alike : Alike ((step t x) .then) ((call c x) .cache)
 
-not-so {ℓ} : {C : Type ℓ} (b : Bool) → b ≡ false → b ≡ true → C
+pub not-so {ℓ} : {C : Type ℓ} (b : Bool) → b ≡ false → b ≡ true → C
 not-so b p q = absurd (true≢false (sym q ∙ p))
 
 module _ (t : Topic) (c : TopicCache) (h : Alike t c) (room : length (t .entries) < places) where

@@ -8,7 +8,8 @@ use borrow.Author.Tests.{eqb-true}
 use Rattle.model.specs.Pairs.{Pair, samePair, among}
 use Rattle.model.specs.Model.{listedIn}
 use Rattle.model.specs.Story.{Entry as Told, Every, entryKeys, touchEntry}
-use Rattle.model.proofs.Laws.{split, map-map, map-ext}
+use Rattle.model.proofs.Laws.{map-map, map-ext}
+use Rattle.model.specs.PairLaws.{split}
 use Rattle.rust_model.specs.Maps.{entry, remove, modify}
 use Rattle.rust_model.specs.DataSampleCache.{hasBeenRead, accessed}
 use Rattle.rust_model.proofs.Alike.{Kept, keyAt, mine, stored, samples, Rising}

@@ -14,7 +14,8 @@ use Rattle.model.specs.Pairs.{Pair, samePair, among}
 use Rattle.model.specs.Views.{greater, viewed}
 use Rattle.model.specs.Model.{Live, keyed, shown}
 use Rattle.model.specs.Story.{Every, mapO, untaken}
-use Rattle.model.proofs.Laws.{split, every-imp}
+use Rattle.model.proofs.Laws.{every-imp}
+use Rattle.model.specs.PairLaws.{split}
 use Rattle.rust_model.specs.Maps.{gives, get, modify, firstAbove, upsert}
 use Rattle.rust_model.specs.DataSampleCache.{InstanceMetaData, SampleWithMetaData, DataSamples, InstanceMap, Generations, «record_instance_generation_viewed», accessedNow, «mark_instances_viewed»}
 use Rattle.rust_model.proofs.MapLaws.{eqb-swap, below-eqb, get-here, get-there, get-modify, above-modify}

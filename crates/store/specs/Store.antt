@@ -20,6 +20,7 @@ use Rattle.sampleinfo.specs.declared.InstanceMetaData.{InstanceMetaData}
 use Rattle.sampleinfo.specs.declared.Stepped.{Stepped}
 use Rattle.sampleinfo.specs.declared.Stepped.the-variants as stepped
 use Rattle.model.specs.Pairs.{Pair}
+use Rattle.model.specs.Model.{least}
 
 -- a cell for each of the last d places, oldest first: the slot, or 256 where there is none; with no keep count there are no cells
 pub record Inst : Type 0 where
@@ -152,10 +153,6 @@ dying s n =
     cond (ltb at (length (s .insts))) (record { code = 0; then = withInst s at (withMeta i (noWritersOf (i .meta))) }) (record { code = 3; then = s })
 
 -- ---- the next name
-
-abbrev pub least : Option ℕ → ℕ → Option ℕ
-least none n = some n
-least (some m) n = some (cond (ltb n m) n m)
 
 unfoldable pub nextName : ℕ → List Inst → Option ℕ
 nextName n [] = none
