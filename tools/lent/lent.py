@@ -1,5 +1,6 @@
 #!/usr/bin/env python3
-"""lent.py CRATE [FN ..]     run from the root of a Rattle repository (where crates.txt is).
+"""lent.py CRATE [FN ..]               run from the root of a Rattle repository (where crates.txt is)
+lent.py --compact [CRATE [FN ..]]   makes the Lts.antt files that exist shorter (shorter.py), and derives nothing
 
 Proves functions over a lent struct (`&[R]`, `&mut [R]`, `&R`, `&mut R`), which Rattle's borrow checker does not cover, by having it derive
 a TWIN in which each lent record R is an array of integers, and writing that derivation out again for R itself. Nothing here is trusted:
@@ -16,7 +17,8 @@ crates/CRATE/lent.txt says what is lent, one line each; `#` begins a comment:
 Functions whose signature has a reference to a record are lent. Records and lent functions of the crates that CRATE uses come from their
 lent.txt. FN: only these (default: all). Options: --list (say what would be done), --keep DIR (leave the twins there), --force
 (write a starting Proof.antt.new even where there is a Proof.antt)."""
-import os, re, shutil, subprocess, sys, tempfile
+import glob, os, re, shutil, subprocess, sys, tempfile
+import shorter
 
 WIDTH = 190
 
@@ -687,6 +689,18 @@ def tree(proofs, fns):
 
 # ---------------------------------------------------------------- the command
 
+def shorten_files(crate="*", fns=()):
+    """the derivations of these crates and functions, or of all, made shorter where they are; a file that is short already is not written"""
+    found = sorted(p for c in glob.glob(os.path.join("crates", crate, "proofs")) for p in glob.glob(os.path.join(c, "**", "Proof", "Lts.antt"), recursive=True)
+                   if not fns or os.path.relpath(p, c)[:-len("/Proof/Lts.antt")].replace(os.sep, "::") in fns)
+    if not found: die("no derivation of that name")
+    sizes = [0, 0]
+    for p in found:
+        old = read(p); new = shorter.shorten(old)
+        if new != old: write(p, new); print(f"{p}: {len(old.encode())} -> {len(new.encode())} bytes")
+        sizes = [sizes[0] + len(old.encode()), sizes[1] + len(new.encode())]
+    print(f"{len(found)} derivations, {sizes[0]} -> {sizes[1]} bytes")
+
 def main():
     args = [a for a in sys.argv[1:] if not a.startswith("--")]; opts = [a for a in sys.argv[1:] if a.startswith("--")]
     keepdir = None
@@ -695,7 +709,8 @@ def main():
         if i + 1 >= len(sys.argv): die("--keep DIR")
         keepdir = os.path.abspath(sys.argv[i+1]); args.remove(sys.argv[i+1])
     for o in opts:
-        if o not in ("--list", "--keep", "--force", "--help"): die(f"no option {o}")
+        if o not in ("--list", "--keep", "--force", "--help", "--compact"): die(f"no option {o}")
+    if "--compact" in opts and "--help" not in opts: return shorten_files(*args[:1], fns=args[1:])
     if not args or "--help" in opts: sys.exit(__doc__)
     if not shutil.which("rt"): die("`rt` is not on the path")
     w = World(os.getcwd(), args[0])
@@ -730,6 +745,7 @@ def main():
                     t = compact(uses(names(records(t, w.records), w, fns + w.todo), w), w, short, f"-- Machine-made by `python3 lent.py {w.me.name} {f.name}`: do not edit; make it again when the source changes.")
                     left = [r["name"] for r in w.records if re.search(rf'tyArray \(Y\.tyInt Y\.w{r["w"]}\) {r["n"]}(?!\d)|(?:Array|arrF|pArr|rArr)\b[^;]{{0,80}}w{r["w"]}\)+ {r["n"]}(?!\d)', t)]
                     if left: print(f"  note: {f.name}/{m}: the array that stands for {left[0]} is still in the text: a rule that lent.py does not know. `rt dev` will refuse it; see `rules` in lent.py")
+                    if m == "Lts": t = shorter.shorten(t)
                     write(dst, t); size += len(t.encode())
                 p = os.path.join(proofs, f.dir, "Proof.antt"); said = ""
                 if f in w.walked:

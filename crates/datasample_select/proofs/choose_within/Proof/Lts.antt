@@ -59,9 +59,6 @@ use mir.Val
 use prog.Wp
 use types.Kit
 
-abbrev y4 : Y.Ty
-y4 = Y.tyArray (Y.tyInt Y.w64) 928
-
 abbrev y3 : Y.Ty
 y3 = Y.tyRef (Y.named 1) Y.imm S.named
 
@@ -74,17 +71,11 @@ y1 = Y.tyRef (Y.named 2) Y.mut (Y.tyInt Y.w64)
 abbrev y0 : Y.Ty
 y0 = Y.tyRef (Y.named 0) Y.imm (Y.tyArray (Y.tyInt Y.w64) 928)
 
-abbrev r0 : Row.Row
-r0 = Rows.sref (Array.Array L.u64 928) y0 0
-
 abbrev r1 : Row.Row
 r1 = Relend.mslice-owed L.u64 y1 2 3 Row.off
 
 abbrev r2 : Row.Row
 r2 = Mut.mslice L.u64 y1 2
-
-abbrev r3 : Row.Row
-r3 = Rows.any-gone (L.sl y2)
 
 abbrev r4 : Row.Row
 r4 = Relend.msptr L.u64 y2 3
@@ -95,29 +86,11 @@ r5 = Mut.mslice L.u64 y2 3
 abbrev r6 : Row.Row
 r6 = Mut.msleft L.u64 y2
 
-abbrev r7 : Row.Row
-r7 = Rows.sslice S.row y3 1
-
-abbrev r8 : Row.Row
-r8 = Rows.any-gone y2
-
-abbrev r9 : Row.Row
-r9 = Rows.whole (Declared'.row ReadCondition.the-type)
-
-abbrev r10 : Row.Row
-r10 = Rows.whole (Declared'.row Cache.the-type)
-
 abbrev r11 : Row.Row
 r11 = Rows.whole (Declared.row Chosen.the-type)
 
-abbrev r12 : Row.Row
-r12 = Rows.whole (Declared.row Within.the-type)
-
 abbrev r13 : Row.Row
 r13 = Rows.any-gone ReadCondition′.mir
-
-abbrev r14 : Row.Row
-r14 = Rows.any-gone Chosen′.mir
 
 abbrev r15 : Row.Row
 r15 = Rows.any-gone Within′.mir
@@ -126,8 +99,8 @@ abbrev r16 : Row.Row
 r16 = Rows.any-gone Cache′.mir
 
 abbrev pub ps : List.List (Kinds.PK 3)
-ps = (L.p Cache.the-type Cache′.the-laws Cache′.the-copy Cache′.the-plain) ∷ ShrRef.pShr (Array.Array L.u64 928) 0 tt ∷ ShrSlice.pShrS S.row 1 tt ∷ Num.pNum Y.w64 ∷ (L.p ReadCondition.the-type
-    ReadCondition′.the-laws ReadCondition′.the-copy ReadCondition′.the-plain) ∷ MutSlice.pMutS L.u64 2 tt ∷ []
+ps = (L.p Cache.the-type Cache′.the-laws Cache′.the-copy Cache′.the-plain) ∷ ShrRef.pShr (Array.Array L.u64 928) 0 tt ∷ ShrSlice.pShrS S.row 1 tt ∷ Num.pNum Y.w64 ∷ (L.p
+    ReadCondition.the-type ReadCondition′.the-laws ReadCondition′.the-copy ReadCondition′.the-plain) ∷ MutSlice.pMutS L.u64 2 tt ∷ []
 
 abbrev pub r : Kinds.RK 3
 r = L.re Chosen.the-type Chosen′.the-laws Chosen′.the-copy Chosen′.the-plain tt
@@ -138,43 +111,23 @@ xs = Within′.mir ∷ y2 ∷ Y.tyStruct (38 ∷ 91 ∷ 93 ∷ []) (Y.tcons y2 (
 abbrev pub m : Nat.ℕ
 m = 1
 
-abbrev pub ps·0 : List.List (Kinds.PK 3)
+abbrev ps·0 : List.List (Kinds.PK 3)
 ps·0 = (L.p Cache.the-type Cache′.the-laws Cache′.the-copy Cache′.the-plain) ∷ ShrRef.pShr (Array.Array L.u64 928) 0 tt ∷ ShrSlice.pShrS S.row 1 tt ∷ (L.pe Within.the-type Within′.the-laws
     Within′.the-copy Within′.the-plain tt) ∷ (L.p ReadCondition.the-type ReadCondition′.the-laws ReadCondition′.the-copy ReadCondition′.the-plain) ∷ MutSlice.pMutS L.u64 2 tt ∷ []
 
-abbrev pub r·0 : Kinds.RK 3
+abbrev r·0 : Kinds.RK 3
 r·0 = L.re Chosen.the-type Chosen′.the-laws Chosen′.the-copy Chosen′.the-plain tt
 
 abbrev pub hs : List.List Y.Home
 hs = Y.valueLocal ∷ Y.valueLocal ∷ Y.valueLocal ∷ Y.valueLocal ∷ Y.valueLocal ∷ Y.valueLocal ∷ Y.valueLocal ∷ Y.valueLocal ∷ Y.valueLocal ∷ Y.valueLocal ∷ []
 
-abbrev b0 : Y.Body
-b0 = Y.assign (Y.place 7 []) (Y.aggregate (Y.int Y.w8 1 ∷ Y.copy (Y.place 4 []) ∷ []))
-
-abbrev b1 : Y.Body
-b1 = Y.assign (Y.place 8 []) (Y.addrOf (Y.place 6 (Y.field 0 ∷ Y.deref (Y.tyInt Y.w64) ∷ [])))
-
-abbrev b2 : Y.Body
-b2 = Y.assign (Y.place 9 []) (Y.aggregate (Y.copy (Y.place 8 []) ∷ Y.copy (Y.place 6 (Y.field 1 ∷ [])) ∷ []))
-
-abbrev b3 : Y.Body
-b3 = Y.call "datasample_select::choose" (Y.copy (Y.place 1 []) ∷ Y.copy (Y.place 2 []) ∷ Y.copy (Y.place 3 []) ∷ Y.copy (Y.place 7 []) ∷ Y.copy (Y.place 5 []) ∷ Y.copy (Y.place 9 []) ∷ [])
-    (Y.place 0 [])
-
 abbrev b4 : Y.Body
 b4 = Y.return
 
-abbrev b5 : Y.Body
-b5 = Y.seq b3 b4
-
-abbrev b6 : Y.Body
-b6 = Y.seq b2 b5
-
-abbrev b7 : Y.Body
-b7 = Y.seq b1 b6
-
 abbrev b8 : Y.Body
-b8 = Y.seq b0 b7
+b8 = Y.seq (Y.assign (Y.place 7 []) (Y.aggregate (Y.int Y.w8 1 ∷ Y.copy (Y.place 4 []) ∷ []))) (Y.seq (Y.assign (Y.place 8 []) (Y.addrOf (Y.place 6 (Y.field 0 ∷ Y.deref (Y.tyInt Y.w64) ∷
+    [])))) (Y.seq (Y.assign (Y.place 9 []) (Y.aggregate (Y.copy (Y.place 8 []) ∷ Y.copy (Y.place 6 (Y.field 1 ∷ [])) ∷ []))) (Y.seq (Y.call "datasample_select::choose" (Y.copy (Y.place 1 [])
+    ∷ Y.copy (Y.place 2 []) ∷ Y.copy (Y.place 3 []) ∷ Y.copy (Y.place 7 []) ∷ Y.copy (Y.place 5 []) ∷ Y.copy (Y.place 9 []) ∷ []) (Y.place 0 [])) b4)))
 
 abbrev pub body : Y.Body
 body = b8
@@ -182,84 +135,55 @@ body = b8
 abbrev pub Claims : Type 1
 Claims = Kinds.In 3 ps·0 × Kinds.Out 3 ps·0 r·0
 
-abbrev pub t0 : List.List Row.Entry
-t0 = (0, r14) ∷ (1, r10) ∷ (2, r0) ∷ (3, r7) ∷ (4, L.h64) ∷ (5, r9) ∷ (6, r2) ∷ (7, r15) ∷ (8, r8) ∷ (9, r3) ∷ []
+abbrev t0 : List.List Row.Entry
+t0 = (0, (Rows.any-gone Chosen′.mir)) ∷ (1, (Rows.whole (Declared'.row Cache.the-type))) ∷ (2, (Rows.sref (Array.Array L.u64 928) y0 0)) ∷ (3, (Rows.sslice S.row y3 1)) ∷ (4, L.h64) ∷
+    (5, (Rows.whole (Declared'.row ReadCondition.the-type))) ∷ (6, r2) ∷ (7, r15) ∷ (8, (Rows.any-gone y2)) ∷ (9, (Rows.any-gone (L.sl y2))) ∷ []
 
-abbrev pub t1 : List.List Row.Entry
-t1 = (0, r11) ∷ (1, r16) ∷ (2, r0) ∷ (3, r7) ∷ (4, L.g64) ∷ (5, r13) ∷ (6, r2) ∷ (7, r15) ∷ (8, r8) ∷ (9, r3) ∷ []
+abbrev on : Nat.ℕ → Row.Row → Row.Cx → Row.Cx
+on n r Γ = record { locals = Row.setRow n (n, r) (Γ .locals); slots = Γ .slots }
 
-abbrev pub t2 : List.List Row.Entry
-t2 = (0, r14) ∷ (1, r10) ∷ (2, r0) ∷ (3, r7) ∷ (4, L.h64) ∷ (5, r9) ∷ (6, r2) ∷ (7, r12) ∷ (8, r8) ∷ (9, r3) ∷ []
+abbrev lives : List.List Row.Life → Row.Cx → Row.Cx
+lives ls Γ = record { locals = Γ .locals; slots = ls }
 
-abbrev pub t3 : List.List Row.Entry
-t3 = (0, r14) ∷ (1, r10) ∷ (2, r0) ∷ (3, r7) ∷ (4, L.h64) ∷ (5, r9) ∷ (6, r1) ∷ (7, r12) ∷ (8, r4) ∷ (9, r3) ∷ []
-
-abbrev pub t4 : List.List Row.Entry
-t4 = (0, r14) ∷ (1, r10) ∷ (2, r0) ∷ (3, r7) ∷ (4, L.h64) ∷ (5, r9) ∷ (6, r1) ∷ (7, r12) ∷ (8, r8) ∷ (9, r5) ∷ []
-
-abbrev pub t5 : List.List Row.Entry
-t5 = (0, r11) ∷ (1, r10) ∷ (2, r0) ∷ (3, r7) ∷ (4, L.h64) ∷ (5, r9) ∷ (6, r1) ∷ (7, r12) ∷ (8, r8) ∷ (9, r6) ∷ []
-
-abbrev pub t6 : List.List Row.Entry
-t6 = (0, r11) ∷ (1, r16) ∷ (2, r0) ∷ (3, r7) ∷ (4, L.h64) ∷ (5, r9) ∷ (6, r1) ∷ (7, r12) ∷ (8, r8) ∷ (9, r6) ∷ []
-
-abbrev pub t7 : List.List Row.Entry
-t7 = (0, r11) ∷ (1, r16) ∷ (2, r0) ∷ (3, r7) ∷ (4, L.h64) ∷ (5, r13) ∷ (6, r1) ∷ (7, r12) ∷ (8, r8) ∷ (9, r6) ∷ []
-
-abbrev pub t8 : List.List Row.Entry
-t8 = (0, r11) ∷ (1, r16) ∷ (2, r0) ∷ (3, r7) ∷ (4, L.h64) ∷ (5, r13) ∷ (6, r1) ∷ (7, r15) ∷ (8, r8) ∷ (9, r6) ∷ []
-
-abbrev pub t9 : List.List Row.Entry
-t9 = (0, r11) ∷ (1, r16) ∷ (2, r0) ∷ (3, r7) ∷ (4, L.h64) ∷ (5, r13) ∷ (6, r2) ∷ (7, r15) ∷ (8, r8) ∷ (9, r3) ∷ []
-
-abbrev pub T0 : Row.Cx
+abbrev T0 : Row.Cx
 T0 = record { locals = t0; slots = [] }
 
-abbrev pub T1 : Row.Cx
-T1 = record { locals = t1; slots = [] }
+abbrev T1 : Row.Cx
+T1 = on 5 r13 (on 4 L.g64 (on 1 r16 (on 0 r11 T0)))
 
-abbrev pub T2 : Row.Cx
-T2 = record { locals = t0; slots = [] }
+abbrev T3 : Row.Cx
+T3 = on 7 (Rows.whole (Declared.row Within.the-type)) T0
 
-abbrev pub T3 : Row.Cx
-T3 = record { locals = t2; slots = [] }
+abbrev T5 : Row.Cx
+T5 = on 8 r4 (on 6 r1 T3)
 
-abbrev pub T5 : Row.Cx
-T5 = record { locals = t3; slots = [] }
+abbrev T6 : Row.Cx
+T6 = on 9 r5 (on 6 r1 T3)
 
-abbrev pub T6 : Row.Cx
-T6 = record { locals = t4; slots = [] }
+abbrev T7 : Row.Cx
+T7 = on 9 r6 (on 0 r11 T6)
 
-abbrev pub T7 : Row.Cx
-T7 = record { locals = t5; slots = [] }
+abbrev T8 : Row.Cx
+T8 = on 1 r16 T7
 
-abbrev pub T8 : Row.Cx
-T8 = record { locals = t6; slots = [] }
+abbrev T9 : Row.Cx
+T9 = on 5 r13 T8
 
-abbrev pub T9 : Row.Cx
-T9 = record { locals = t7; slots = [] }
+abbrev T10 : Row.Cx
+T10 = on 7 r15 T9
 
-abbrev pub T10 : Row.Cx
-T10 = record { locals = t8; slots = [] }
+abbrev T12 : Row.Cx
+T12 = on 4 L.h64 T1
 
-abbrev pub T12 : Row.Cx
-T12 = record { locals = t9; slots = [] }
-
-abbrev pub T13 : Row.Cx
-T13 = record { locals = t9; slots = [] }
-
-abbrev pub T15 : Row.Cx
-T15 = record { locals = t1; slots = [] }
-
-abbrev pub O0 : Typed.Outs
+abbrev O0 : Typed.Outs
 O0 = record { next = Option.none; exits = []; returns = Option.some T1 }
 
-module _ (claims· : Claims) where
-  abbrev s0 : Typed.Gives T0 T2
+module _ (cl : Claims) where
+  abbrev s0 : Typed.Gives T0 T0
   s0 = Know.k-sl-known (Referent.fInt Y.w64) T0 6 2 y1 Row.off 0 λ x. x
 
-  abbrev s1 : Typed.Mo T2 → Typed.Mo T3
-  s1 = Make.n-enum-make Within.the-type T2 7 λ m. Within.enum .make (Logic.inr (Logic.inl (m .1 .1 .1 .1 .0, tt)))
+  abbrev s1 : Typed.Mo T0 → Typed.Mo T3
+  s1 = Make.n-enum-make Within.the-type T0 7 λ m. Within.enum .make (Logic.inr (Logic.inl (m .1 .1 .1 .1 .0, tt)))
 
   abbrev s3 : Typed.Gives T3 T5
   s3 = Relend.k-sl-relend L.u64 T3 6 8 2 3 y1 y2 Row.off λ x. x
@@ -268,34 +192,9 @@ module _ (claims· : Claims) where
   s4 = Relend.k-sl-aggregate L.u64 (Relend.asMut L.u64) T5 8 9 3 y2 y2 (λ x. x) (Scalar.oFld 6 (Y.field 1 ∷ []) (Y.tyInt Y.w64) 8 λ v. Shared.lenV (v .0))
 
   abbrev s5 : Typed.Both T6 T7
-  s5 = Call.callB ps·0 r·0 (claims· .0) (claims· .1) T6 (
-    record { pos = 1; st = []; d = 0; at = λ x. x },
-    (
-      record { pos = 2; ty = Y.tyRef (Y.named 0) Y.imm y4; ref = λ x. x },
-      (
-        record {
-          pos = 3;
-          ty = Y.tyRef (Y.named 1) Y.imm S.named;
-          ref = λ x. x;
-        },
-        (
-          record { pos = 7; st = []; d = 0; at = λ x. x },
-          (
-            record { pos = 5; st = []; d = 0; at = λ x. x },
-            (
-              record {
-                pos =
-                    9;
-                ty = Y.tyRef Y.erased Y.mut (Y.tyInt Y.w64);
-                ref = λ x. x;
-              },
-              tt,
-            ),
-          ),
-        ),
-      ),
-    ),
-  ) 0 (0 ∷ 1 ∷ 3 ∷ []) Chosen′.mir
+  s5 = Call.callB ps·0 r·0 (cl .0) (cl .1) T6
+      (record { pos = 1; st = []; d = 0; at = λ x. x }, (record { pos = 2; ty = y0; ref = λ x. x }, (record { pos = 3; ty = y3; ref = λ x. x }, (record { pos = 7; st = []; d = 0; at = λ x. x }, (record { pos = 5; st = []; d = 0; at = λ x. x }, (record { pos = 9; ty = y2; ref = λ x. x }, tt))))))
+      0 (0 ∷ 1 ∷ 3 ∷ []) Chosen′.mir
 
   abbrev s6 : Typed.Mo T7 → Typed.Mo T8
   s6 = Scalar.n-room T7 1 Cache′.mir
@@ -309,550 +208,210 @@ module _ (claims· : Claims) where
   abbrev s10 : Typed.Both T10 T12
   s10 = Relend.k-back-sl L.u64 T10 9 6 2 3 y1 y2 Row.off (λ x. x) λ x. x
 
-  abbrev s11 : Typed.Gives T12 T13
+  abbrev s11 : Typed.Gives T12 T12
   s11 = Know.k-sl-known (Referent.fInt Y.w64) T12 6 2 y1 Row.off 0 λ x. x
 
-  abbrev s13 : Typed.Mo T13 → Typed.Mo T15
-  s13 = Scalar.n-room T13 4 (Y.tyInt Y.w64)
+  abbrev s13 : Typed.Mo T12 → Typed.Mo T1
+  s13 = Scalar.n-room T12 4 (Y.tyInt Y.w64)
 
   module _ (Pre· : (κs : Lifetimes.Lfts 3) → Kinds.Dens κs ps → Type 0) (Post· : (κs : Lifetimes.Lfts 3) → (a : Kinds.Dens κs ps) → Kinds.Plain 3 ps r κs) where
-    module _ (M : Type 1) where
-      abbrev pub Closed : Type 2
-      Closed = (𝓤 : URA.URA M) (H : Wp.Heap 𝓤) (A : Atoms.Atoms 𝓤) (W : Kit.Given 𝓤 H A) (𝓣 : Wp.Tables 𝓤 H) (known0 : Plain.Known 𝓤 H A W 𝓣 3 ps·0 r·0 (claims· .0) (claims· .1)
-          "datasample_select::choose") → Statement.Triple 𝓤 (Wp.WpFn 𝓤 H (𝓣 .C) (𝓣 .Λ) (Function.fnOf 3 ps r xs m hs body)) (Function.plainOf 𝓤 H A 3 ps r Pre· Post·)
+    abbrev pub Closed : (M : Type 1) → Type 2
+    Closed M = (U : URA.URA M) (H : Wp.Heap U) (A : Atoms.Atoms U) (W : Kit.Given U H A) (C : Wp.Tables U H) (known0 : Plain.Known U H A W C 3 ps·0 r·0 (cl .0) (cl .1)
+        "datasample_select::choose") → Statement.Triple U (Wp.WpFn U H (C .C) (C .Λ) (Function.fnOf 3 ps r xs m hs body)) (Function.plainOf U H A 3 ps r Pre· Post·)
+
+    abbrev at7 : Typed.TF T8 O0
+    at7 = λ Ψ. Typed.pass T8 T9 s7 (Typed.pass T9 T10 s8 (Typed.both s10 (Typed.give s11 (Typed.pass T12 T1 s13 (Typed.atRet O0 Ψ)))))
+
+    abbrev at8 : Typed.TF T7 O0
+    at8 = λ Ψ. Typed.pass T7 T8 s6 (at7 Ψ)
+
+    abbrev at14 : Typed.TF T0 O0
+    at14 = λ Ψ. Typed.give s0 (Typed.pass T0 T3 s1 (Typed.give s3 (Typed.ask s4 (Typed.both s5 (at8 Ψ)))))
+
+    abbrev pub Φ : Typed.TF T0 O0
+    Φ = at14
+
+    module _ {M : Type 1} (U : URA.URA M) (H : Wp.Heap U) (A : Atoms.Atoms U) (W : Kit.Given U H A) (C : Wp.Tables U H) where
+      abbrev Knowns : Type 1
+      Knowns = Plain.Known U H A W C 3 ps·0 r·0 (cl .0) (cl .1) "datasample_select::choose"
+
+    module _ (κs : Lifetimes.Lfts 3) (qs : Lifetimes.Shares 3) where
+      abbrev l0 : Row.Life
+      l0 = Row.lease (κs .1 .1 .0) (qs .1 .1 .0)
+
+      abbrev z0 : List.List Row.Life
+      z0 = Row.lease (κs .0) (qs .0) ∷ Row.lease (κs .1 .0) (qs .1 .0) ∷ l0 ∷ Row.off ∷ []
+
+      abbrev G7 : Row.Cx
+      G7 = lives (Row.lease (κs .0) (qs .0) ∷ Row.lease (κs .1 .0) (qs .1 .0) ∷ Row.off ∷ Row.alive ∷ []) (on 6 (Relend.mslice-owed L.u64 y1 2 3 l0) T7)
+
+      abbrev Δ0 : Typed.Outs
+      Δ0 = record { next = Option.none; exits = []; returns = Option.some (lives z0 T1) }
+
+      module _ {M : Type 1} (U : URA.URA M) (H : Wp.Heap U) (A : Atoms.Atoms U) (W : Kit.Given U H A) (C : Wp.Tables U H) (known : Knowns U H A W C) (bs : List.List Nat.ℕ) (bd :
+          Lifetimes.AllOutlive 3 (Kinds.osR r) κs) where
+        abbrev E : Wp.Env U H
+        E = Frame.EnvOf U H (Kinds.tyR r ∷ (Enter.tysP ps xs)) bs
+
+        copied : (R : denote.RattleType.RattleType) → borrow.Table.OneValue.One R → denote.Laws.Copy U H A R → Yields.Yields U H A (λ ρ. Unit) (denote.Memory.lone (R .mir)) (Rows.whole R)
+            (Rows.whole R) R (λ x. x) (λ x. x)
+        copied R one c = Yields.yields-copy U H A W (λ ρ. Unit) R one c (Rows.whole R) (λ x. x) (λ x. x) (λ ρ told. Local.mem-whole U H A W R ρ) λ ρ told. Local.whole-mem U H A W R ρ
+
+        pre : {Γ Γ₁ : Row.Cx} {b : Y.Body} {Δ : Typed.Outs} {φ : Typed.Tf Γ Γ₁} {Φ : Typed.TF Γ₁ Δ} → Typed.Ghost U H A E Γ Γ₁ φ → Typed.Typed U H A C E Γ₁ b Δ Φ → Typed.Typed U H A C E Γ b
+            Δ (λ Ψ. φ (Φ Ψ))
+        pre = Typed.g-pre U H A W C E _ _ _ _ _ _
+
+        seq : {Γ Γ₁ : Row.Cx} {a b : Y.Body} {Δ : Typed.Outs} {φ : Typed.Tf Γ Γ₁} {Φ : Typed.TF Γ₁ Δ} → Typed.Stmt U H A C E Γ a Γ₁ φ → Typed.Typed U H A C E Γ₁ b Δ Φ → Typed.Typed U H A C E
+            Γ (Y.seq a b) Δ (λ Ψ. φ (Φ Ψ))
+        seq = Typed.s-seq U H A W C E _ _ _ _ _ _ _
+
+        as-is : (r : Row.Row) → Reads.As U H A r r (λ x. x)
+        as-is = Reads.as-is U H A
+
+        d7 : Typed.Typed U H A C E (on 1 r16 G7) b4 Δ0 at7
+        d7 = pre (Scalar.g-room U H A W E _ 5 ReadCondition′.mir (Local.room-whole U H A W (Declared'.row ReadCondition.the-type) ReadCondition′.mir refl)) (pre (Scalar.g-room U H A W E _ 7
+            Within′.mir (Local.room-whole U H A W (Declared.row Within.the-type) Within′.mir refl)) (pre (Lifetime.g-end U H A W E _ 3 refl) (pre (Relend.g-back-sl U H A W E L.u64 _ 9 6 2 3
+            y1 y2 l0 (λ x. x) (λ x. x) (as-is r6) (as-is (Relend.mslice-owed L.u64 y1 2 3 l0)) refl refl) (pre (Know.g-sl-known U H A W (Referent.fInt Y.w64) E _ 6 2 y1 l0 0 (λ x. x) record
+            { fits = Dec'.lit< tt } (as-is r2) refl tt) (pre (Lifetime.g-forget U H A W E _ 3 Row.dead refl) (pre (Scalar.g-room U H A W E _ 4 (Y.tyInt Y.w64) (Scalar.room-sc U H A W
+            (Row.sInt Y.w64))) (Typed.t-return U H A W C E Δ0 tt)))))))
+
+        d8 : Typed.Typed U H A C E G7 b4 Δ0 at8
+        d8 = pre (Scalar.g-room U H A W E _ 1 Cache′.mir (Local.room-whole U H A W (Declared'.row Cache.the-type) Cache′.mir refl)) d7
+
+        d14 : Typed.Typed U H A C E (lives z0 T0) b8 Δ0 at14
+        d14 = pre (Know.g-sl-known U H A W (Referent.fInt Y.w64) E _ 6 2 y1 l0 0 (λ x. x) record { fits = Dec'.lit< tt } (as-is r2) refl tt) (seq (Make.t-enum-make-wt U H A W E C
+            Within.the-type Within′.the-laws Within′.the-plain tt _ 7 (Scalar.oInt Y.w8 1 ∷ Scalar.oAt 4 (Y.tyInt Y.w64) (Row.valS (Row.sInt Y.w64)) ∷ []) (λ m. Within.enum .make (Logic.inr
+            (Logic.inl (m .1 .1 .1 .1 .0, tt)))) (Reads.room-gone U H A Within′.mir) (tt, ((Scalar.reads-sc U H A W (Row.sInt Y.w64), refl), tt)) refl (λ m wa. Make.made-val Within.the-type
+            Within′.the-laws (Within′.the-laws .1 .0 .0 .val (m .1 .1 .1 .1 .0) ∷ []) (Within.enum .make (Logic.inr (Logic.inl (m .1 .1 .1 .1 .0, tt))))
+            (Signed.made-wt Field.u64-field (Within′.the-laws .1 .0 .0) Make'.u64-wt (m .1 .1 .1 .1 .0), tt) (wa .1)) λ m wa. Make.made-is Within.the-type Within′.the-laws (Within′.the-laws
+            .1 .0 .0 .val (m .1 .1 .1 .1 .0) ∷ []) (Within.enum .make (Logic.inr (Logic.inl (m .1 .1 .1 .1 .0, tt))))
+            (Signed.made-wt Field.u64-field (Within′.the-laws .1 .0 .0) Make'.u64-wt (m .1 .1 .1 .1 .0), tt) (wa .1)) (pre (Lifetime.g-begin U H A W E _ 3
+            (tt, (tt, (tt, (tt, (tt, (tt, (tt, (tt, (tt, (tt, tt))))))))))) (seq (Relend.t-sl-relend U H A W E L.u64 C _ 6 8 2 3 y1 y2 l0 0 (λ x. x) (as-is r2) (Reads.room-gone U H A y2)
+            refl tt refl refl refl λ b o. tt) (seq (Relend.t-sl-aggregate U H A W E L.u64 C (Relend.asMut L.u64) _ 8 9 3 y2 y2 (λ x. x) (Scalar.oFld 6 (Y.field 1 ∷ []) (Y.tyInt Y.w64) 8 λ v.
+            Shared.lenV (v .0)) (as-is r4) (Reads.room-gone U H A (L.sl y2)) (Relend.reads-owed-len U H A W L.u64 y1 2 3 l0 8 refl, refl) refl refl λ b o k. tt) (seq (Plain.t-call-plain U H
+            A W C 3 ps·0 r·0 (cl .0) (cl .1) "datasample_select::choose" known E (λ pos β. β) _
+            (record { pos = 1; st = []; d = 0; at = λ x. x }, (record { pos = 2; ty = y0; ref = λ x. x }, (record { pos = 3; ty = y3; ref = λ x. x }, (record { pos = 7; st = []; d = 0; at = λ x. x }, (record { pos = 5; st = []; d = 0; at = λ x. x }, (record { pos = 9; ty = y2; ref = λ x. x }, tt))))))
+            0 (0 ∷ 1 ∷ 3 ∷ []) (Call.sub-id U H A W _)
+            ((copied (Declared'.row Cache.the-type) refl (Copies.cStruct Cache.the-type Cache′.the-laws Cache′.the-copy .copy U H A W), refl), (ShrRef.spares-sref U H A W (Array.Array L.u64 928) y0 0, Reads.reads-sref U H A W (Array.Array L.u64 928) y0 0, refl, (ShrSlice.spares-sslice U H A W S.row y3 1, Shared.reads-sslice U H A W S.row y3 1, refl, ((copied (Declared.row Within.the-type) refl (Copies.cEnum Within.the-type Within′.the-laws Within′.the-copy .copy U H A W), refl), ((copied (Declared'.row ReadCondition.the-type) refl (Copies.cStruct ReadCondition.the-type ReadCondition′.the-laws ReadCondition′.the-copy .copy U H A W), refl), (as-is r5, Mut.reads-mslice U H A W L.u64 y2 3, refl, tt))))))
+            (Reads.room-gone U H A Chosen′.mir) (tt, (tt, (tt, tt))) refl) d8)))))
 
-    module _ where
-      abbrev at0 : Typed.TF T15 O0
-      at0 = Typed.atRet O0
+        pub typed : Typed.Typed U H A C E (Function.Γin 3 ps r xs m κs qs) b8 (Function.Δret 3 ps r xs m κs qs) Φ
+        typed = d14
 
-      abbrev at1 : Typed.TF T13 O0
-      at1 = λ Ψ. Typed.pass T13 T15 s13 (at0 Ψ)
+    module _ (κs : Lifetimes.Lfts 3) where
+      pub record Args : Type 0 where
+        pub h : Kinds.Den {n = 3} κs (L.p Cache.the-type Cache′.the-laws Cache′.the-copy Cache′.the-plain)
+        pub ws : Kinds.Den {n = 3} κs (ShrRef.pShr (Array.Array L.u64 928) 0 tt)
+        pub t : Kinds.Den {n = 3} κs (ShrSlice.pShrS S.row 1 tt)
+        pub instance : Kinds.Den {n = 3} κs (Num.pNum Y.w64)
+        pub rc : Kinds.Den {n = 3} κs (L.p ReadCondition.the-type ReadCondition′.the-laws ReadCondition′.the-copy ReadCondition′.the-plain)
+        pub out : Kinds.Den {n = 3} κs (MutSlice.pMutS L.u64 2 tt)
 
-      abbrev at2 : Typed.TF T13 O0
-      at2 = λ Ψ. at1 Ψ
+      abbrev pub dens : (a : Args) → Kinds.Dens κs ps
+      dens a = (a .h, (a .ws, (a .t, (a .instance, (a .rc, (a .out, tt))))))
 
-      abbrev at3 : Typed.TF T12 O0
-      at3 = λ Ψ. Typed.give s11 (at2 Ψ)
+      pub record Ranges (args· : Args) : Type 0 where
+        pub instance : Val.Fits Y.w64 (args· .instance)
+
+    pub record Start : Type 0 where
+      pub κs : Lifetimes.Lfts 3
+      pub args : Args κs
+      pub good : Kinds.GoodsP κs ps (dens κs args)
+      pub fits : Ranges κs args
+      pub pre : Pre· κs (dens κs args)
 
-      abbrev at4 : Typed.TF T10 O0
-      at4 = λ Ψ. Typed.both s10 (at3 Ψ)
+    abbrev passed : (c : Start) → Kinds.Dens (c .κs) ps
+    passed c = dens (c .κs) (c .args)
 
-      abbrev at5 : Typed.TF T10 O0
-      at5 = λ Ψ. at4 Ψ
+    abbrev m0 : (c : Start) → Typed.Mo T0
+    m0 c = (tt, Enter.partsP (c .κs) 1 ps xs (passed c))
 
-      abbrev at6 : Typed.TF T9 O0
-      at6 = λ Ψ. Typed.pass T9 T10 s8 (at5 Ψ)
+    abbrev Owed : (c : Start) → Typed.Mo T1 → Type 0
+    Owed c u = Post· (c .κs) (passed c) (Function.resV r (c .κs) (u .0)) (Clauses.atExit (Kinds.endedOf 3 ps r) (c .κs) (passed c) (Enter.lastsP (c .κs) 1 ps xs (passed c) (u .1)))
 
-      abbrev at7 : Typed.TF T8 O0
-      at7 = λ Ψ. Typed.pass T8 T9 s7 (at6 Ψ)
+    abbrev W0 : (c : Start) → Typed.Want O0
+    W0 c = (λ u. ⊥, tt, λ u. Enter.Fixs (c .κs) 1 ps xs (passed c) (u .1) × Owed c u)
 
-      abbrev at8 : Typed.TF T7 O0
-      at8 = λ Ψ. Typed.pass T7 T8 s6 (at7 Ψ)
+    pub record After-slice-known·own (c : Start) : Type 0 where
+      pub given : s0 .gives (m0 c)
 
-      abbrev at9 : Typed.TF T6 O0
-      at9 = λ Ψ. Typed.both s5 (at8 Ψ)
+    pub record After-slice-known : Type 0 where
+      pub before : Start
+      pub slice-known : After-slice-known·own before
 
-      abbrev at10 : Typed.TF T5 O0
-      at10 = λ Ψ. Typed.ask s4 (at9 Ψ)
+    abbrev m2 : (c : After-slice-known) → Typed.Mo T3
+    m2 c = s1 (s0 .next (m0 (c .before)) (c .slice-known .given))
 
-      abbrev at11 : Typed.TF T3 O0
-      at11 = λ Ψ. Typed.give s3 (at10 Ψ)
+    pub record After-choose-arg·own (c : After-slice-known) : Type 0 where
+      pub given : s3 .gives (m2 c)
 
-      abbrev at12 : Typed.TF T3 O0
-      at12 = λ Ψ. at11 Ψ
+    pub record After-choose-arg : Type 0 where
+      pub before : After-slice-known
+      pub choose-arg : After-choose-arg·own before
 
-      abbrev at13 : Typed.TF T2 O0
-      at13 = λ Ψ. Typed.pass T2 T3 s1 (at12 Ψ)
+    abbrev m4 : (c : After-choose-arg) → Typed.Mo T6
+    m4 c = s4 .next (s3 .next (m2 (c .before)) (c .choose-arg .given))
 
-      abbrev at14 : Typed.TF T0 O0
-      at14 = λ Ψ. Typed.give s0 (at13 Ψ)
+    abbrev pub Need-choose-requires : Type 0
+    Need-choose-requires = (c : After-choose-arg) → s5 .asks (m4 c)
 
-      abbrev pub Φ : Typed.TF T0 O0
-      Φ = at14
+    abbrev pub After-choose·own : (c : After-choose-arg) → Type 0
+    After-choose·own c = Called.Called ps·0 r·0 (cl .1) T6
+        (record { pos = 1; st = []; d = 0; at = λ x. x }, (record { pos = 2; ty = y0; ref = λ x. x }, (record { pos = 3; ty = y3; ref = λ x. x }, (record { pos = 7; st = []; d = 0; at = λ x. x }, (record { pos = 5; st = []; d = 0; at = λ x. x }, (record { pos = 9; ty = y2; ref = λ x. x }, tt))))))
+        (m4 c)
 
-      module _ {M : Type 1} (𝓤 : URA.URA M) (H : Wp.Heap 𝓤) (A : Atoms.Atoms 𝓤) (W : Kit.Given 𝓤 H A) (𝓣 : Wp.Tables 𝓤 H) where
-        abbrev Knowns : Type 1
-        Knowns = Plain.Known 𝓤 H A W 𝓣 3 ps·0 r·0 (claims· .0) (claims· .1) "datasample_select::choose"
+    pub record After-choose : Type 0 where
+      pub before : After-choose-arg
+      pub choose : After-choose·own before
 
-      module _ (κs : Lifetimes.Lfts 3) (qs : Lifetimes.Shares 3) where
-        abbrev z0 : List.List Row.Life
-        z0 = Row.lease (κs .0) (qs .0) ∷ Row.lease (κs .1 .0) (qs .1 .0) ∷ Row.lease (κs .1 .1 .0) (qs .1 .1 .0) ∷ Row.off ∷ []
+    abbrev pub After-choose·gave : (c : After-choose) → s5 .gives (m4 (c .before))
+    After-choose·gave c = Called.given _ _ _ _ _ _ (c .choose)
 
-        abbrev z1 : List.List Row.Life
-        z1 = Row.lease (κs .0) (qs .0) ∷ Row.lease (κs .1 .0) (qs .1 .0) ∷ Row.off ∷ Row.alive ∷ []
+    abbrev m5 : (c : After-choose) → Typed.Mo T7
+    m5 c = s5 .next (m4 (c .before)) (After-choose·gave c)
 
-        abbrev z2 : List.List Row.Life
-        z2 = Row.lease (κs .0) (qs .0) ∷ Row.lease (κs .1 .0) (qs .1 .0) ∷ Row.lease (κs .1 .1 .0) (qs .1 .1 .0) ∷ Row.dead ∷ []
+    abbrev m8 : (c : After-choose) → Typed.Mo T10
+    m8 c = s8 (s7 (s6 (m5 c)))
 
-        abbrev g3 : List.List Row.Entry
-        g3 = (0, r14) ∷ (1, r10) ∷ (2, r0) ∷ (3, r7) ∷ (4, L.h64) ∷ (5, r9) ∷ (6, Relend.mslice-owed L.u64 y1 2 3 (Row.lease (κs .1 .1 .0) (qs .1 .1 .0))) ∷ (7, r12) ∷ (8, r4) ∷ (9, r3) ∷ []
+    pub record After-out·own (c : After-choose) : Type 0 where
+      pub given : s10 .gives (m8 c)
 
-        abbrev g4 : List.List Row.Entry
-        g4 = (0, r14) ∷ (1, r10) ∷ (2, r0) ∷ (3, r7) ∷ (4, L.h64) ∷ (5, r9) ∷ (6, Relend.mslice-owed L.u64 y1 2 3 (Row.lease (κs .1 .1 .0) (qs .1 .1 .0))) ∷ (7, r12) ∷ (8, r8) ∷ (9, r5) ∷ []
+    pub record After-out : Type 0 where
+      pub before : After-choose
+      pub out : After-out·own before
 
-        abbrev g5 : List.List Row.Entry
-        g5 = (0, r11) ∷ (1, r10) ∷ (2, r0) ∷ (3, r7) ∷ (4, L.h64) ∷ (5, r9) ∷ (6, Relend.mslice-owed L.u64 y1 2 3 (Row.lease (κs .1 .1 .0) (qs .1 .1 .0))) ∷ (7, r12) ∷ (8, r8) ∷ (9, r6) ∷ []
+    abbrev m9 : (c : After-out) → Typed.Mo T12
+    m9 c = s10 .next (m8 (c .before)) (c .out .given)
 
-        abbrev g6 : List.List Row.Entry
-        g6 = (0, r11) ∷ (1, r16) ∷ (2, r0) ∷ (3, r7) ∷ (4, L.h64) ∷ (5, r9) ∷ (6, Relend.mslice-owed L.u64 y1 2 3 (Row.lease (κs .1 .1 .0) (qs .1 .1 .0))) ∷ (7, r12) ∷ (8, r8) ∷ (9, r6) ∷ []
+    pub record After-slice-known2·own (c : After-out) : Type 0 where
+      pub given : s11 .gives (m9 c)
 
-        abbrev g7 : List.List Row.Entry
-        g7 = (0, r11) ∷ (1, r16) ∷ (2, r0) ∷ (3, r7) ∷ (4, L.h64) ∷ (5, r13) ∷ (6, Relend.mslice-owed L.u64 y1 2 3 (Row.lease (κs .1 .1 .0) (qs .1 .1 .0))) ∷ (7, r12) ∷ (8, r8) ∷ (9, r6) ∷
-            []
+    pub record After-slice-known2 : Type 0 where
+      pub before : After-out
+      pub slice-known2 : After-slice-known2·own before
 
-        abbrev g8 : List.List Row.Entry
-        g8 = (0, r11) ∷ (1, r16) ∷ (2, r0) ∷ (3, r7) ∷ (4, L.h64) ∷ (5, r13) ∷ (6, Relend.mslice-owed L.u64 y1 2 3 (Row.lease (κs .1 .1 .0) (qs .1 .1 .0))) ∷ (7, r15) ∷ (8, r8) ∷ (9, r6) ∷
-            []
+    abbrev m11 : (c : After-slice-known2) → Typed.Mo T1
+    m11 c = s13 (s11 .next (m9 (c .before)) (c .slice-known2 .given))
 
-        abbrev G0 : Row.Cx
-        G0 = record { locals = t0; slots = z0 }
+    abbrev pub Need-same-length : Type 0
+    Need-same-length = (c : After-slice-known2) → MutSlice.SameLen (Row.get 6 (T1 .locals) (m11 c)) (passed (c .before .before .before .before .before) .1 .1 .1 .1 .1 .0)
 
-        abbrev G1 : Row.Cx
-        G1 = record { locals = t1; slots = z0 }
+    abbrev pub Need-returns : Type 0
+    Need-returns = (c : After-slice-known2) → Owed (c .before .before .before .before .before) (m11 c)
 
-        abbrev G2 : Row.Cx
-        G2 = record { locals = t0; slots = z0 }
+    module _ (choose-requires : Need-choose-requires) (same-length : Need-same-length) (returns : Need-returns) where
+      lay1 : (c : After-choose) → at8 (W0 (c .before .before .before)) (m5 c)
+      lay1 c =
+          (refl, λ g. let c1 : After-out = record { before = c; out = record { given = g } } in λ g'. let c2 : After-slice-known2 = record { before = c1; slice-known2 = record { given = g' } } in ((tt, (refl, (refl, (tt, (tt, (MutSlice.fix-len _ _ (Row.get 6 (T1 .locals) (m11 c2) .now) (passed (c .before .before .before) .1 .1 .1 .1 .1 .0 .now) (same-length c2), tt)))))), returns c2))
 
-        abbrev G3 : Row.Cx
-        G3 = record { locals = t2; slots = z0 }
+      pub laid : (c : Start) → at14 (W0 c) (m0 c)
+      laid c = λ g. let c1 : After-slice-known = record { before = c; slice-known = record { given = g } } in λ g'. let c2 : After-choose-arg = record
+          { before = c1; choose-arg = record { given = g' } } in (refl, (choose-requires c2, λ g''. lay1 (record { before = c2; choose = Called.called _ _ _ _ _ _ g'' })))
 
-        abbrev G4 : Row.Cx
-        G4 = record { locals = t2; slots = Row.lease (κs .0) (qs .0) ∷ Row.lease (κs .1 .0) (qs .1 .0) ∷ Row.lease (κs .1 .1 .0) (qs .1 .1 .0) ∷ Row.alive ∷ [] }
-
-        abbrev G5 : Row.Cx
-        G5 = record { locals = g3; slots = z1 }
-
-        abbrev G6 : Row.Cx
-        G6 = record { locals = g4; slots = z1 }
-
-        abbrev G7 : Row.Cx
-        G7 = record { locals = g5; slots = z1 }
-
-        abbrev G8 : Row.Cx
-        G8 = record { locals = g6; slots = z1 }
-
-        abbrev G9 : Row.Cx
-        G9 = record { locals = g7; slots = z1 }
-
-        abbrev G10 : Row.Cx
-        G10 = record { locals = g8; slots = z1 }
-
-        abbrev G11 : Row.Cx
-        G11 = record { locals = g8; slots = Row.lease (κs .0) (qs .0) ∷ Row.lease (κs .1 .0) (qs .1 .0) ∷ Row.off ∷ Row.dead ∷ [] }
-
-        abbrev G12 : Row.Cx
-        G12 = record { locals = t9; slots = z2 }
-
-        abbrev G13 : Row.Cx
-        G13 = record { locals = t9; slots = z2 }
-
-        abbrev G14 : Row.Cx
-        G14 = record { locals = t9; slots = z0 }
-
-        abbrev G15 : Row.Cx
-        G15 = record { locals = t1; slots = z0 }
-
-        abbrev Δ0 : Typed.Outs
-        Δ0 = record { next = Option.none; exits = []; returns = Option.some G1 }
-
-        module _ {M : Type 1} (𝓤 : URA.URA M) (H : Wp.Heap 𝓤) (A : Atoms.Atoms 𝓤) (W : Kit.Given 𝓤 H A) (𝓣 : Wp.Tables 𝓤 H) (known : Knowns 𝓤 H A W 𝓣) (bs : List.List Nat.ℕ) (bd :
-            Lifetimes.AllOutlive 3 (Kinds.osR r) κs) where
-          abbrev E : Wp.Env 𝓤 H
-          E = Frame.EnvOf 𝓤 H (Kinds.tyR r ∷ (Enter.tysP ps xs)) bs
-
-          d0 : Typed.Typed 𝓤 H A 𝓣 E G15 b4 Δ0 at0
-          d0 = Typed.t-return 𝓤 H A W 𝓣 E Δ0 tt
-
-          d1 : Typed.Typed 𝓤 H A 𝓣 E G14 b4 Δ0 at1
-          d1 = Typed.g-pre 𝓤 H A W 𝓣 E G14 G15 b4 Δ0 (Typed.pass T13 T15 s13) at0 (Scalar.g-room 𝓤 H A W E G14 4 (Y.tyInt Y.w64) (Scalar.room-sc 𝓤 H A W (Row.sInt Y.w64))) d0
-
-          d2 : Typed.Typed 𝓤 H A 𝓣 E G13 b4 Δ0 at2
-          d2 = Typed.g-pre 𝓤 H A W 𝓣 E G13 G14 b4 Δ0 (λ Ψ. Ψ) at1 (Lifetime.g-forget 𝓤 H A W E G13 3 Row.dead refl) d1
-
-          d3 : Typed.Typed 𝓤 H A 𝓣 E G12 b4 Δ0 at3
-          d3 = Typed.g-pre 𝓤 H A W 𝓣 E G12 G13 b4 Δ0 (Typed.give s11) at2 (Know.g-sl-known 𝓤 H A W (Referent.fInt Y.w64) E G12 6 2 y1 (Row.lease (κs .1 .1 .0) (qs .1 .1 .0)) 0 (λ x. x)
-              record { fits = Dec'.lit< tt } (Reads.as-is 𝓤 H A r2) refl tt) d2
-
-          d4 : Typed.Typed 𝓤 H A 𝓣 E G11 b4 Δ0 at4
-          d4 = Typed.g-pre 𝓤 H A W 𝓣 E G11 G12 b4 Δ0 (Typed.both s10) at3 (Relend.g-back-sl 𝓤 H A W E L.u64 G11 9 6 2 3 y1 y2 (Row.lease (κs .1 .1 .0) (qs .1 .1 .0)) (λ x. x) (λ x. x)
-              (Reads.as-is 𝓤 H A r6) (Reads.as-is 𝓤 H A (Relend.mslice-owed L.u64 y1 2 3 (Row.lease (κs .1 .1 .0) (qs .1 .1 .0)))) refl refl) d3
-
-          d5 : Typed.Typed 𝓤 H A 𝓣 E G10 b4 Δ0 at5
-          d5 = Typed.g-pre 𝓤 H A W 𝓣 E G10 G11 b4 Δ0 (λ Ψ. Ψ) at4 (Lifetime.g-end 𝓤 H A W E G10 3 refl) d4
-
-          d6 : Typed.Typed 𝓤 H A 𝓣 E G9 b4 Δ0 at6
-          d6 = Typed.g-pre 𝓤 H A W 𝓣 E G9 G10 b4 Δ0 (Typed.pass T9 T10 s8) at5 (Scalar.g-room 𝓤 H A W E G9 7 Within′.mir (Local.room-whole 𝓤 H A W (Declared.row Within.the-type) Within′.mir
-              refl)) d5
-
-          d7 : Typed.Typed 𝓤 H A 𝓣 E G8 b4 Δ0 at7
-          d7 = Typed.g-pre 𝓤 H A W 𝓣 E G8 G9 b4 Δ0 (Typed.pass T8 T9 s7) at6 (Scalar.g-room 𝓤 H A W E G8 5 ReadCondition′.mir (Local.room-whole 𝓤 H A W (Declared'.row
-              ReadCondition.the-type) ReadCondition′.mir refl)) d6
-
-          d8 : Typed.Typed 𝓤 H A 𝓣 E G7 b4 Δ0 at8
-          d8 = Typed.g-pre 𝓤 H A W 𝓣 E G7 G8 b4 Δ0 (Typed.pass T7 T8 s6) at7 (Scalar.g-room 𝓤 H A W E G7 1 Cache′.mir (Local.room-whole 𝓤 H A W (Declared'.row Cache.the-type) Cache′.mir
-              refl)) d7
-
-          d9 : Typed.Typed 𝓤 H A 𝓣 E G6 b5 Δ0 at9
-          d9 = Typed.s-seq 𝓤 H A W 𝓣 E G6 G7 b3 b4 Δ0 (Typed.both s5) at8 (Plain.t-call-plain 𝓤 H A W 𝓣 3 ps·0 r·0 (claims· .0) (claims· .1) "datasample_select::choose" known E (λ pos β. β)
-              G6 (
-                record { pos = 1; st = []; d = 0; at = λ x. x },
-                (
-                  record { pos = 2; ty = Y.tyRef (Y.named 0) Y.imm y4; ref = λ x. x },
-                  (
-                    record {
-                      pos = 3;
-                      ty = Y.tyRef (Y.named 1) Y.imm
-                          S.named;
-                      ref = λ x. x;
-                    },
-                    (
-                      record { pos = 7; st = []; d = 0; at = λ x. x },
-                      (
-                        record { pos = 5; st = []; d = 0; at = λ x. x },
-                        (
-                          record {
-                            pos = 9;
-                            ty = Y.tyRef Y.erased Y.mut
-                                (Y.tyInt Y.w64);
-                            ref = λ x. x;
-                          },
-                          tt,
-                        ),
-                      ),
-                    ),
-                  ),
-                ),
-              ) 0 (0 ∷ 1 ∷ 3 ∷ []) (Call.sub-id 𝓤 H A W (G6 .slots)) (
-                (
-                  Yields.yields-copy 𝓤 H A W (λ ρ. Unit) (Declared'.row Cache.the-type) refl
-                      (Copies.cStruct Cache.the-type Cache′.the-laws Cache′.the-copy .copy 𝓤 H A W) r10 (λ x. x) (λ x. x) (λ ρ told. Local.mem-whole 𝓤 H A W (Declared'.row Cache.the-type) ρ) λ ρ told.
-                      Local.whole-mem 𝓤 H A W (Declared'.row Cache.the-type) ρ,
-                  refl,
-                ),
-                (
-                  ShrRef.spares-sref 𝓤 H A W (Array.Array L.u64 928) y0 0,
-                  Reads.reads-sref 𝓤 H A W (Array.Array L.u64 928) y0
-                      0,
-                  refl,
-                  (
-                    ShrSlice.spares-sslice 𝓤 H A W S.row y3 1,
-                    Shared.reads-sslice 𝓤 H A W S.row y3 1,
-                    refl,
-                    (
-                      (
-                        Yields.yields-copy 𝓤 H A W (λ ρ. Unit) (Declared.row Within.the-type) refl
-                            (Copies.cEnum Within.the-type Within′.the-laws Within′.the-copy .copy 𝓤 H A W) r12 (λ x. x) (λ x. x) (λ ρ told. Local.mem-whole 𝓤 H A W (Declared.row Within.the-type) ρ) λ ρ
-                            told. Local.whole-mem 𝓤 H A W (Declared.row Within.the-type) ρ,
-                        refl,
-                      ),
-                      (
-                        (
-                          Yields.yields-copy 𝓤 H A W (λ ρ. Unit) (Declared'.row ReadCondition.the-type) refl (Copies.cStruct
-                              ReadCondition.the-type ReadCondition′.the-laws ReadCondition′.the-copy .copy 𝓤 H A W) r9 (λ x. x) (λ x. x) (λ ρ told. Local.mem-whole 𝓤 H A W (Declared'.row ReadCondition.the-type) ρ) λ ρ told.
-                              Local.whole-mem 𝓤 H A W (Declared'.row ReadCondition.the-type) ρ,
-                          refl,
-                        ),
-                        (Reads.as-is 𝓤 H A r5, Mut.reads-mslice 𝓤 H A W L.u64 y2 3, refl, tt),
-                      ),
-                    ),
-                  ),
-                ),
-              ) (Reads.room-gone 𝓤 H A
-              Chosen′.mir) (tt, (tt, (tt, tt))) refl) d8
-
-          d10 : Typed.Typed 𝓤 H A 𝓣 E G5 b6 Δ0 at10
-          d10 = Typed.s-seq 𝓤 H A W 𝓣 E G5 G6 b2 b5 Δ0 (Typed.ask s4) at9 (Relend.t-sl-aggregate 𝓤 H A W E L.u64 𝓣 (Relend.asMut L.u64) G5 8 9 3 y2 y2 (λ x. x) (Scalar.oFld 6 (Y.field 1 ∷
-              []) (Y.tyInt Y.w64) 8 λ v. Shared.lenV (v .0)) (Reads.as-is 𝓤 H A r4) (Reads.room-gone 𝓤 H A (L.sl y2)) (
-                Relend.reads-owed-len 𝓤 H A W L.u64 y1 2 3 (Row.lease (κs .1 .1 .0)
-                    (qs .1 .1 .0)) 8 refl,
-                refl,
-              ) refl refl λ b o k. tt) d9
-
-          d11 : Typed.Typed 𝓤 H A 𝓣 E G4 b7 Δ0 at11
-          d11 = Typed.s-seq 𝓤 H A W 𝓣 E G4 G5 b1 b6 Δ0 (Typed.give s3) at10 (Relend.t-sl-relend 𝓤 H A W E L.u64 𝓣 G4 6 8 2 3 y1 y2 (Row.lease (κs .1 .1 .0) (qs .1 .1 .0)) 0 (λ x. x)
-              (Reads.as-is 𝓤 H A r2) (Reads.room-gone 𝓤 H A y2) refl tt refl refl refl λ b o. tt) d10
-
-          d12 : Typed.Typed 𝓤 H A 𝓣 E G3 b7 Δ0 at12
-          d12 = Typed.g-pre 𝓤 H A W 𝓣 E G3 G4 b7 Δ0 (λ Ψ. Ψ) at11 (Lifetime.g-begin 𝓤 H A W E G3 3 (tt, (tt, (tt, (tt, (tt, (tt, (tt, (tt, (tt, (tt, tt))))))))))) d11
-
-          d13 : Typed.Typed 𝓤 H A 𝓣 E G2 b8 Δ0 at13
-          d13 = Typed.s-seq 𝓤 H A W 𝓣 E G2 G3 b0 b7 Δ0 (Typed.pass T2 T3 s1) at12 (Make.t-enum-make-wt 𝓤 H A W E 𝓣 Within.the-type Within′.the-laws Within′.the-plain tt G2 7 (Scalar.oInt Y.w8
-              1 ∷ Scalar.oAt 4 (Y.tyInt Y.w64) (Row.valS (Row.sInt Y.w64)) ∷ []) (λ m. Within.enum .make (Logic.inr (Logic.inl (m .1 .1 .1 .1 .0, tt)))) (Reads.room-gone 𝓤 H A Within′.mir)
-              (tt, ((Scalar.reads-sc 𝓤 H A W (Row.sInt Y.w64), refl), tt)) refl (λ m wa. Make.made-val Within.the-type Within′.the-laws (Within′.the-laws .1 .0 .0 .val (m .1 .1 .1 .1 .0) ∷
-              []) (Within.enum .make (Logic.inr (Logic.inl (m .1 .1 .1 .1 .0, tt)))) (Signed.made-wt Field.u64-field (Within′.the-laws .1 .0 .0) Make'.u64-wt (m .1 .1 .1 .1 .0), tt) (wa .1))
-              λ m wa. Make.made-is Within.the-type Within′.the-laws (Within′.the-laws .1 .0 .0 .val (m .1 .1 .1 .1 .0) ∷ []) (Within.enum .make (Logic.inr (Logic.inl (m .1 .1 .1 .1 .0, tt))))
-              (Signed.made-wt Field.u64-field (Within′.the-laws .1 .0 .0) Make'.u64-wt (m .1 .1 .1 .1 .0), tt) (wa .1)) d12
-
-          d14 : Typed.Typed 𝓤 H A 𝓣 E G0 b8 Δ0 at14
-          d14 = Typed.g-pre 𝓤 H A W 𝓣 E G0 G2 b8 Δ0 (Typed.give s0) at13 (Know.g-sl-known 𝓤 H A W (Referent.fInt Y.w64) E G0 6 2 y1 (Row.lease (κs .1 .1 .0) (qs .1 .1 .0)) 0 (λ x. x) record
-              { fits = Dec'.lit< tt } (Reads.as-is 𝓤 H A r2) refl tt) d13
-
-          pub typed : Typed.Typed 𝓤 H A 𝓣 E (Function.Γin 3 ps r xs m κs qs) b8 (Function.Δret 3 ps r xs m κs qs) Φ
-          typed = d14
-
-      module _ (κs : Lifetimes.Lfts 3) where
-        pub record Args : Type 0 where
-          pub h : Kinds.Den {n = 3} κs (L.p Cache.the-type Cache′.the-laws Cache′.the-copy Cache′.the-plain)
-          pub ws : Kinds.Den {n = 3} κs (ShrRef.pShr (Array.Array L.u64 928) 0 tt)
-          pub t : Kinds.Den {n = 3} κs (ShrSlice.pShrS S.row 1 tt)
-          pub instance : Kinds.Den {n = 3} κs (Num.pNum Y.w64)
-          pub rc : Kinds.Den {n = 3} κs (L.p ReadCondition.the-type ReadCondition′.the-laws ReadCondition′.the-copy ReadCondition′.the-plain)
-          pub out : Kinds.Den {n = 3} κs (MutSlice.pMutS L.u64 2 tt)
-
-        abbrev pub dens : (a : Args) → Kinds.Dens κs ps
-        dens = λ a. (a .h, (a .ws, (a .t, (a .instance, (a .rc, (a .out, tt))))))
-
-        module _ (args· : Args) where
-          pub record Ranges : Type 0 where
-            pub instance : Val.Fits Y.w64 (args· .instance)
-
-      abbrev pub m0 : (κs : Lifetimes.Lfts 3) → (args : Args κs) → Typed.Mo T0
-      m0 = λ κs args. (tt, Enter.partsP κs 1 ps xs (dens κs args))
-
-      abbrev W0 : (κs : Lifetimes.Lfts 3) → (args : Args κs) → Typed.Want O0
-      W0 = λ κs args. (
-        λ u. ⊥,
-        tt,
-        λ u. Enter.Fixs κs 1 ps xs (dens κs args) (u .1) × Post· κs (dens κs args) (Function.resV r κs (u .0)) (Clauses.atExit (Kinds.endedOf 3 ps r) κs (dens κs
-            args) (Enter.lastsP κs 1 ps xs (dens κs args) (u .1))),
-      )
-
-      pub record Start : Type 0 where
-        pub κs : Lifetimes.Lfts 3
-        pub args : Args κs
-        pub good : Kinds.GoodsP κs ps (dens κs args)
-        pub fits : Ranges κs args
-        pub pre : Pre· κs (dens κs args)
-
-      abbrev pub m1 : (before : Start) → (given : s0 .gives (m0 (before .κs) (before .args))) → Typed.Mo T2
-      m1 = λ before given. s0 .next (m0 (before .κs) (before .args)) given
-
-      abbrev pub m2 : (before : Start) → (given : s0 .gives (m0 (before .κs) (before .args))) → Typed.Mo T3
-      m2 = λ before given. s1 (m1 before given)
-
-      module _ (before· : Start) where
-        pub record After-slice-known·own : Type 0 where
-          pub given : s0 .gives (m0 (before· .κs) (before· .args))
-
-      pub record After-slice-known : Type 0 where
-        pub before : Start
-        pub slice-known : After-slice-known·own before
-
-      abbrev pub m3 : (before : After-slice-known) → (given : s3 .gives (m2 (before .before) (before .slice-known .given))) → Typed.Mo T5
-      m3 = λ before given. s3 .next (m2 (before .before) (before .slice-known .given)) given
-
-      abbrev pub m4 : (before : After-slice-known) → (given : s3 .gives (m2 (before .before) (before .slice-known .given))) → Typed.Mo T6
-      m4 = λ before given. s4 .next (m3 before given)
-
-      module _ (before· : After-slice-known) where
-        pub record After-choose-arg·own : Type 0 where
-          pub given : s3 .gives (m2 (before· .before) (before· .slice-known .given))
-
-      pub record After-choose-arg : Type 0 where
-        pub before : After-slice-known
-        pub choose-arg : After-choose-arg·own before
-
-      abbrev pub Need-choose-requires : Type 0
-      Need-choose-requires = (c : After-choose-arg) → s5 .asks (m4 (c .before) (c .choose-arg .given))
-
-      abbrev pub m5 : (before : After-choose-arg) → (given : s5 .gives (m4 (before .before) (before .choose-arg .given))) → Typed.Mo T7
-      m5 = λ before given. s5 .next (m4 (before .before) (before .choose-arg .given)) given
-
-      module _ (before· : After-choose-arg) where
-        abbrev pub After-choose·own : Type 0
-        After-choose·own = Called.Called ps·0 r·0 (claims· .1) T6 (
-          record { pos = 1; st = []; d = 0; at = λ x. x },
-          (
-            record { pos = 2; ty = Y.tyRef (Y.named 0) Y.imm y4; ref = λ x. x },
-            (
-              record { pos = 3; ty = Y.tyRef (Y.named 1) Y.imm S.named; ref = λ x. x },
-              (
-                record { pos = 7; st = []; d = 0; at = λ x. x },
-                (
-                  record { pos = 5; st = []; d = 0; at = λ x. x },
-                  (record { pos = 9; ty = Y.tyRef Y.erased Y.mut (Y.tyInt Y.w64); ref = λ x. x }, tt),
-                ),
-              ),
-            ),
-          ),
-        ) (m4 (before· .before) (before· .choose-arg .given))
-
-      pub record After-choose : Type 0 where
-        pub before : After-choose-arg
-        pub choose : After-choose·own before
-
-      abbrev pub After-choose·gave : (c : After-choose) → s5 .gives (m4 (c .before .before) (c .before .choose-arg .given))
-      After-choose·gave = λ c. Called.given ps·0 r·0 (claims· .1) T6 (
-        record { pos = 1; st = []; d = 0; at = λ x. x },
-        (
-          record { pos = 2; ty = Y.tyRef (Y.named 0) Y.imm y4; ref = λ x. x },
-          (
-            record { pos = 3; ty = Y.tyRef (Y.named 1) Y.imm S.named; ref = λ x. x },
-            (
-              record { pos = 7; st = []; d = 0; at = λ x. x },
-              (
-                record { pos = 5; st = []; d = 0; at = λ x. x },
-                (record { pos = 9; ty = Y.tyRef Y.erased Y.mut (Y.tyInt Y.w64); ref = λ x. x }, tt),
-              ),
-            ),
-          ),
-        ),
-      ) (m4 (c .before .before) (c .before .choose-arg .given)) (c .choose)
-
-      abbrev pub m6 : (before : After-choose-arg) → (given : s5 .gives (m4 (before .before) (before .choose-arg .given))) → Typed.Mo T8
-      m6 = λ before given. s6 (m5 before given)
-
-      abbrev pub m7 : (before : After-choose-arg) → (given : s5 .gives (m4 (before .before) (before .choose-arg .given))) → Typed.Mo T9
-      m7 = λ before given. s7 (m6 before given)
-
-      abbrev pub m8 : (before : After-choose-arg) → (given : s5 .gives (m4 (before .before) (before .choose-arg .given))) → Typed.Mo T10
-      m8 = λ before given. s8 (m7 before given)
-
-      abbrev pub m9 : (before : After-choose) → (given : s10 .gives (m8 (before .before) (After-choose·gave before))) → Typed.Mo T12
-      m9 = λ before given. s10 .next (m8 (before .before) (After-choose·gave before)) given
-
-      module _ (before· : After-choose) where
-        pub record After-out·own : Type 0 where
-          pub given : s10 .gives (m8 (before· .before) (After-choose·gave before·))
-
-      pub record After-out : Type 0 where
-        pub before : After-choose
-        pub out : After-out·own before
-
-      abbrev pub m10 : (before : After-out) → (given : s11 .gives (m9 (before .before) (before .out .given))) → Typed.Mo T13
-      m10 = λ before given. s11 .next (m9 (before .before) (before .out .given)) given
-
-      abbrev pub m11 : (before : After-out) → (given : s11 .gives (m9 (before .before) (before .out .given))) → Typed.Mo T15
-      m11 = λ before given. s13 (m10 before given)
-
-      module _ (before· : After-out) where
-        pub record After-slice-known2·own : Type 0 where
-          pub given : s11 .gives (m9 (before· .before) (before· .out .given))
-
-      pub record After-slice-known2 : Type 0 where
-        pub before : After-out
-        pub slice-known2 : After-slice-known2·own before
-
-      abbrev pub Need-same-length : Type 0
-      Need-same-length = (c : After-slice-known2) → MutSlice.SameLen (Row.get 6 (T15 .locals) (m11 (c .before) (c .slice-known2 .given))) (dens (c .before .before .before .before .before
-          .κs) (c .before .before .before .before .before .args) .1 .1 .1 .1 .1 .0)
-
-      abbrev pub Need-returns : Type 0
-      Need-returns = (c : After-slice-known2) → Post· (c .before .before .before .before .before .κs) (dens (c .before .before .before .before .before .κs) (c .before .before .before
-          .before .before .args)) (Function.resV r (c .before .before .before .before .before .κs) (m11 (c .before) (c .slice-known2 .given) .0)) (Clauses.atExit (Kinds.endedOf 3 ps r) (c
-          .before .before .before .before .before .κs) (dens (c .before .before .before .before .before .κs) (c .before .before .before .before .before .args)) (Enter.lastsP (c .before
-          .before .before .before .before .κs) 1 ps xs (dens (c .before .before .before .before .before .κs) (c .before .before .before .before .before .args)) (m11 (c .before) (c
-          .slice-known2 .given) .1)))
-
-      module _ (choose-requires : Need-choose-requires) (same-length : Need-same-length) (returns : Need-returns) where
-        lay1 : (c : After-choose) → at8 (W0 (c .before .before .before .κs) (c .before .before .before .args)) (m5 (c .before) (After-choose·gave c))
-        lay1 = λ c. (
-          refl,
-          λ g. λ g'. (
-            (
-              tt,
-              (
-                refl,
-                (
-                  refl,
-                  (
-                    tt,
-                    (
-                      tt,
-                      (
-                        MutSlice.fix-len (Row.get 6 (T15 .locals) (m11 record {
-                          before = record { before = c .before; choose = c .choose };
-                          out
-                              = record { given = g };
-                        } g') .ptr) (Row.get 6 (T15 .locals) (m11 record { before = record { before = c .before; choose = c .choose }; out = record { given = g } } g') .name)
-                            (Row.get 6 (T15 .locals) (m11 record { before = record { before = c .before; choose = c .choose }; out = record { given = g } } g') .now) (dens (c .before .before .before .κs)
-                            (c .before .before .before .args) .1 .1 .1 .1 .1 .0 .now) (same-length record {
-                              before = record {
-                                before = record { before = c .before; choose = c .choose };
-                                out = record {
-                                  given = g;
-                                };
-                              };
-                              slice-known2 = record { given = g' };
-                            }),
-                        tt,
-                      ),
-                    ),
-                  ),
-                ),
-              ),
-            ),
-            returns record {
-              before = record {
-                before = record { before = c .before; choose = c .choose };
-                out = record {
-                  given = g;
-                };
-              };
-              slice-known2 = record { given = g' };
-            },
-          ),
-        )
-
-        pub laid : (c : Start) → at14 (W0 (c .κs) (c .args)) (m0 (c .κs) (c .args))
-        laid = λ c. λ g. λ g'. (
-          refl,
-          (
-            choose-requires record { before = record { before = c; slice-known = record { given = g } }; choose-arg = record { given = g' } },
-            λ g''. lay1 record {
-              before = record { before = record { before = c; slice-known = record { given = g } }; choose-arg = record { given = g' } };
-              choose = Called.called ps·0 r·0 (claims· .1) T6 (
-                record { pos = 1; st = []; d = 0; at = λ x. x },
-                (
-                  record { pos = 2; ty = Y.tyRef (Y.named 0) Y.imm y4; ref = λ x. x },
-                  (
-                    record {
-                      pos = 3;
-                      ty = Y.tyRef (Y.named 1) Y.imm
-                          S.named;
-                      ref = λ x. x;
-                    },
-                    (
-                      record { pos = 7; st = []; d = 0; at = λ x. x },
-                      (
-                        record { pos = 5; st = []; d = 0; at = λ x. x },
-                        (
-                          record {
-                            pos = 9;
-                            ty = Y.tyRef Y.erased Y.mut
-                                (Y.tyInt Y.w64);
-                            ref = λ x. x;
-                          },
-                          tt,
-                        ),
-                      ),
-                    ),
-                  ),
-                ),
-              ) (m4 record { before = c; slice-known = record { given = g } } g') g'';
-            },
-          ),
-        )
-
-        module _ (κs : Lifetimes.Lfts 3) (qs : Lifetimes.Shares 3) where
-          pub asked : (a : Kinds.Dens κs ps) → (good : Kinds.GoodsP κs ps a) → (pre : Pre· κs a) → (bs : List.List Nat.ℕ) → Φ (Any.wantQ 3 ps r xs m κs qs a (Post· κs a)) (Function.init 3
-              ps r xs m κs qs a)
-          asked = λ a good pre bs. laid record {
-            κs = κs;
-            args = record {
-              h = a .0;
-              ws = a .1 .0;
-              t = a .1 .1 .0;
-              instance = a .1 .1 .1 .0;
-              rc = a .1 .1 .1 .1 .0;
-              out = a .1 .1 .1 .1 .1 .0;
-            };
-            good = good;
-            fits = record { instance = record { fits = good .1 .1 .1 .0 .1 } };
-            pre = pre;
-          }
-
-        module _ {M : Type 1} (𝓤 : URA.URA M) (H : Wp.Heap 𝓤) (A : Atoms.Atoms 𝓤) (W : Kit.Given 𝓤 H A) (𝓣 : Wp.Tables 𝓤 H) (known0 : Plain.Known 𝓤 H A W 𝓣 3 ps·0 r·0 (claims· .0) (claims·
-            .1) "datasample_select::choose") where
-          pub spec : Statement.Triple 𝓤 (Wp.WpFn 𝓤 H (𝓣 .C) (𝓣 .Λ) (Function.fnOf 3 ps r xs m hs body)) (Function.plainOf 𝓤 H A 3 ps r Pre· Post·)
-          spec = Plain.t-fn-plain 𝓤 H A W 𝓣 3 ps r xs m hs body (λ κs qs bs. Φ) (λ κs qs bs bd. typed κs qs 𝓤 H A W 𝓣 known0 bs bd) Pre· Post· asked
+      pub asked : (κs : Lifetimes.Lfts 3) → (qs : Lifetimes.Shares 3) → (a : Kinds.Dens κs ps) → (good : Kinds.GoodsP κs ps a) → (pre : Pre· κs a) → (bs : List.List Nat.ℕ) → Φ (Any.wantQ 3
+          ps r xs m κs qs a (Post· κs a)) (Function.init 3 ps r xs m κs qs a)
+      asked κs qs a good pre bs = laid record
+          { κs = κs; args = record { h = a .0; ws = a .1 .0; t = a .1 .1 .0; instance = a .1 .1 .1 .0; rc = a .1 .1 .1 .1 .0; out = a .1 .1 .1 .1 .1 .0 }; good = good; fits = record { instance = record { fits = good .1 .1 .1 .0 .1 } }; pre = pre }
+
+      pub spec : {M : Type 1} → Closed M
+      spec U H A W C known0 = Plain.t-fn-plain U H A W C 3 ps r xs m hs body (λ κs qs bs. Φ) (λ κs qs bs bd. typed κs qs U H A W C known0 bs bd) Pre· Post· asked

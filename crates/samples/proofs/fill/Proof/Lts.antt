@@ -48,9 +48,6 @@ r0 = Relend.mslice-owed S.row y0 0 1 Row.off
 abbrev r1 : Row.Row
 r1 = Mut.mslice S.row y0 0
 
-abbrev r2 : Row.Row
-r2 = Rows.any-gone (L.sl y1)
-
 abbrev r3 : Row.Row
 r3 = Relend.msptr S.row y1 1
 
@@ -59,9 +56,6 @@ r4 = Mut.mslice S.row y1 1
 
 abbrev r5 : Row.Row
 r5 = Mut.msleft S.row y1
-
-abbrev r6 : Row.Row
-r6 = Rows.any-gone y1
 
 abbrev pub ps : List.List (Kinds.PK 1)
 ps = MutSlice.pMutS S.row 0 tt ∷ []
@@ -75,23 +69,14 @@ xs = Y.tyInt Y.w64 ∷ Y.tyInt Y.w64 ∷ Y.tyBool ∷ Y.tyUnit ∷ y1 ∷ Y.tySt
 abbrev pub m : Nat.ℕ
 m = 1
 
-abbrev pub ps·0 : List.List (Kinds.PK 1)
+abbrev ps·0 : List.List (Kinds.PK 1)
 ps·0 = MutSlice.pMutS S.row 0 tt ∷ Num.pNum Y.w64 ∷ []
 
-abbrev pub r·0 : Kinds.RK 1
+abbrev r·0 : Kinds.RK 1
 r·0 = Unit'.rUnit
 
 abbrev pub hs : List.List Y.Home
 hs = Y.valueLocal ∷ Y.valueLocal ∷ Y.valueLocal ∷ Y.valueLocal ∷ Y.valueLocal ∷ Y.valueLocal ∷ Y.valueLocal ∷ Y.valueLocal ∷ []
-
-abbrev b0 : Y.Body
-b0 = Y.assign (Y.place 2 []) (Y.rvOpd (Y.int Y.w64 0))
-
-abbrev b1 : Y.Body
-b1 = Y.assign (Y.place 3 []) (Y.rvOpd (Y.copy (Y.place 1 (Y.field 1 ∷ []))))
-
-abbrev b2 : Y.Body
-b2 = Y.assign (Y.place 4 []) (Y.op2 (Y.lt Y.unsigned) (Y.copy (Y.place 2 [])) (Y.copy (Y.place 3 [])))
 
 abbrev b3 : Y.Body
 b3 = Y.skip
@@ -102,35 +87,16 @@ b4 = Y.exit 1
 abbrev b5 : Y.Body
 b5 = Y.cond (Y.copy (Y.place 4 [])) b3 b4
 
-abbrev b6 : Y.Body
-b6 = Y.assign (Y.place 6 []) (Y.addrOf (Y.place 1 (Y.field 0 ∷ Y.deref S.ty ∷ [])))
-
-abbrev b7 : Y.Body
-b7 = Y.assign (Y.place 7 []) (Y.aggregate (Y.copy (Y.place 6 []) ∷ Y.copy (Y.place 1 (Y.field 1 ∷ [])) ∷ []))
-
-abbrev b8 : Y.Body
-b8 = Y.call "samples::clear" (Y.copy (Y.place 7 []) ∷ Y.copy (Y.place 2 []) ∷ []) (Y.place 5 [])
-
 abbrev b9 : Y.Body
 b9 = Y.assign (Y.place 2 []) (Y.op2 (Y.add Y.unsigned) (Y.copy (Y.place 2 [])) (Y.int Y.w64 1))
 
-abbrev b10 : Y.Body
-b10 = Y.seq b8 b9
-
-abbrev b11 : Y.Body
-b11 = Y.seq b7 b10
-
 abbrev b12 : Y.Body
-b12 = Y.seq b6 b11
-
-abbrev b13 : Y.Body
-b13 = Y.seq b5 b12
-
-abbrev b14 : Y.Body
-b14 = Y.seq b2 b13
+b12 = Y.seq (Y.assign (Y.place 6 []) (Y.addrOf (Y.place 1 (Y.field 0 ∷ Y.deref S.ty ∷ [])))) (Y.seq (Y.assign (Y.place 7 []) (Y.aggregate (Y.copy (Y.place 6 []) ∷ Y.copy (Y.place 1 (Y.field
+    1 ∷ [])) ∷ []))) (Y.seq (Y.call "samples::clear" (Y.copy (Y.place 7 []) ∷ Y.copy (Y.place 2 []) ∷ []) (Y.place 5 [])) b9))
 
 abbrev b15 : Y.Body
-b15 = Y.seq b1 b14
+b15 = Y.seq (Y.assign (Y.place 3 []) (Y.rvOpd (Y.copy (Y.place 1 (Y.field 1 ∷ []))))) (Y.seq (Y.assign (Y.place 4 []) (Y.op2 (Y.lt Y.unsigned) (Y.copy (Y.place 2 [])) (Y.copy (Y.place 3
+    [])))) (Y.seq b5 b12))
 
 abbrev b16 : Y.Body
 b16 = Y.loop b15
@@ -138,20 +104,11 @@ b16 = Y.loop b15
 abbrev b17 : Y.Body
 b17 = Y.block b16
 
-abbrev b18 : Y.Body
-b18 = Y.assign (Y.place 0 []) (Y.rvOpd Y.opdUnit)
-
-abbrev b19 : Y.Body
-b19 = Y.return
-
 abbrev b20 : Y.Body
-b20 = Y.seq b18 b19
-
-abbrev b21 : Y.Body
-b21 = Y.seq b17 b20
+b20 = Y.seq (Y.assign (Y.place 0 []) (Y.rvOpd Y.opdUnit)) Y.return
 
 abbrev b22 : Y.Body
-b22 = Y.seq b0 b21
+b22 = Y.seq (Y.assign (Y.place 2 []) (Y.rvOpd (Y.int Y.w64 0))) (Y.seq b17 b20)
 
 abbrev pub body : Y.Body
 body = b22
@@ -159,107 +116,62 @@ body = b22
 abbrev pub Claims : Type 1
 Claims = Kinds.In 1 ps·0 × Kinds.Out 1 ps·0 r·0
 
-abbrev pub t0 : List.List Row.Entry
-t0 = (0, L.gunit) ∷ (1, r1) ∷ (2, L.g64) ∷ (3, L.g64) ∷ (4, L.gbool) ∷ (5, L.gunit) ∷ (6, r6) ∷ (7, r2) ∷ []
+abbrev t0 : List.List Row.Entry
+t0 = (0, L.gunit) ∷ (1, r1) ∷ (2, L.g64) ∷ (3, L.g64) ∷ (4, L.gbool) ∷ (5, L.gunit) ∷ (6, (Rows.any-gone y1)) ∷ (7, (Rows.any-gone (L.sl y1))) ∷ []
 
-abbrev pub t1 : List.List Row.Entry
-t1 = (0, L.hunit) ∷ (1, r1) ∷ (2, L.g64) ∷ (3, L.g64) ∷ (4, L.gbool) ∷ (5, L.gunit) ∷ (6, r6) ∷ (7, r2) ∷ []
+abbrev on : Nat.ℕ → Row.Row → Row.Cx → Row.Cx
+on n r Γ = record { locals = Row.setRow n (n, r) (Γ .locals); slots = Γ .slots }
 
-abbrev pub t2 : List.List Row.Entry
-t2 = (0, L.gunit) ∷ (1, r1) ∷ (2, L.h64) ∷ (3, L.g64) ∷ (4, L.gbool) ∷ (5, L.gunit) ∷ (6, r6) ∷ (7, r2) ∷ []
+abbrev lives : List.List Row.Life → Row.Cx → Row.Cx
+lives ls Γ = record { locals = Γ .locals; slots = ls }
 
-abbrev pub t3 : List.List Row.Entry
-t3 = (0, L.gunit) ∷ (1, r1) ∷ (2, L.h64) ∷ (3, L.h64) ∷ (4, L.gbool) ∷ (5, L.gunit) ∷ (6, r6) ∷ (7, r2) ∷ []
-
-abbrev pub t4 : List.List Row.Entry
-t4 = (0, L.gunit) ∷ (1, r1) ∷ (2, L.h64) ∷ (3, L.h64) ∷ (4, L.hbool) ∷ (5, L.gunit) ∷ (6, r6) ∷ (7, r2) ∷ []
-
-abbrev pub t5 : List.List Row.Entry
-t5 = (0, L.gunit) ∷ (1, r1) ∷ (2, L.h64) ∷ (3, L.g64) ∷ (4, L.hbool) ∷ (5, L.gunit) ∷ (6, r6) ∷ (7, r2) ∷ []
-
-abbrev pub t6 : List.List Row.Entry
-t6 = (0, L.gunit) ∷ (1, r0) ∷ (2, L.h64) ∷ (3, L.g64) ∷ (4, L.gbool) ∷ (5, L.gunit) ∷ (6, r3) ∷ (7, r2) ∷ []
-
-abbrev pub t7 : List.List Row.Entry
-t7 = (0, L.gunit) ∷ (1, r0) ∷ (2, L.h64) ∷ (3, L.g64) ∷ (4, L.gbool) ∷ (5, L.gunit) ∷ (6, r6) ∷ (7, r4) ∷ []
-
-abbrev pub t8 : List.List Row.Entry
-t8 = (0, L.gunit) ∷ (1, r0) ∷ (2, L.h64) ∷ (3, L.g64) ∷ (4, L.gbool) ∷ (5, L.hunit) ∷ (6, r6) ∷ (7, r5) ∷ []
-
-abbrev pub t9 : List.List Row.Entry
-t9 = (0, L.gunit) ∷ (1, r0) ∷ (2, L.h64) ∷ (3, L.g64) ∷ (4, L.gbool) ∷ (5, L.gunit) ∷ (6, r6) ∷ (7, r5) ∷ []
-
-abbrev pub t10 : List.List Row.Entry
-t10 = (0, L.hunit) ∷ (1, r1) ∷ (2, L.h64) ∷ (3, L.g64) ∷ (4, L.gbool) ∷ (5, L.gunit) ∷ (6, r6) ∷ (7, r2) ∷ []
-
-abbrev pub T0 : Row.Cx
+abbrev T0 : Row.Cx
 T0 = record { locals = t0; slots = [] }
 
-abbrev pub T1 : Row.Cx
-T1 = record { locals = t1; slots = [] }
+abbrev T1 : Row.Cx
+T1 = on 0 L.hunit T0
 
-abbrev pub T2 : Row.Cx
-T2 = record { locals = t2; slots = [] }
+abbrev T2 : Row.Cx
+T2 = on 2 L.h64 T0
 
-abbrev pub T3 : Row.Cx
-T3 = record { locals = t2; slots = [] }
+abbrev T4 : Row.Cx
+T4 = on 3 L.h64 T2
 
-abbrev pub T4 : Row.Cx
-T4 = record { locals = t3; slots = [] }
+abbrev T5 : Row.Cx
+T5 = on 4 L.hbool T4
 
-abbrev pub T5 : Row.Cx
-T5 = record { locals = t4; slots = [] }
+abbrev T7 : Row.Cx
+T7 = on 3 L.g64 T5
 
-abbrev pub T6 : Row.Cx
-T6 = record { locals = t2; slots = [] }
+abbrev T11 : Row.Cx
+T11 = on 6 r3 (on 1 r0 T2)
 
-abbrev pub T7 : Row.Cx
-T7 = record { locals = t5; slots = [] }
+abbrev T12 : Row.Cx
+T12 = on 7 r4 (on 1 r0 T2)
 
-abbrev pub T8 : Row.Cx
-T8 = record { locals = t2; slots = [] }
+abbrev T13 : Row.Cx
+T13 = on 7 r5 (on 5 L.hunit T12)
 
-abbrev pub T9 : Row.Cx
-T9 = record { locals = t2; slots = [] }
+abbrev T14 : Row.Cx
+T14 = on 7 r5 T12
 
-abbrev pub T11 : Row.Cx
-T11 = record { locals = t6; slots = [] }
+abbrev T19 : Row.Cx
+T19 = on 2 L.h64 T1
 
-abbrev pub T12 : Row.Cx
-T12 = record { locals = t7; slots = [] }
-
-abbrev pub T13 : Row.Cx
-T13 = record { locals = t8; slots = [] }
-
-abbrev pub T14 : Row.Cx
-T14 = record { locals = t9; slots = [] }
-
-abbrev pub T16 : Row.Cx
-T16 = record { locals = t2; slots = [] }
-
-abbrev pub T18 : Row.Cx
-T18 = record { locals = t2; slots = [] }
-
-abbrev pub T19 : Row.Cx
-T19 = record { locals = t10; slots = [] }
-
-abbrev pub T20 : Row.Cx
-T20 = record { locals = t1; slots = [] }
-
-abbrev pub O0 : Typed.Outs
+abbrev O0 : Typed.Outs
 O0 = record { next = Option.none; exits = []; returns = Option.some T1 }
 
-abbrev pub O1 : Typed.Outs
-O1 = Typed.withNext (Option.some T3) O0
+abbrev O1 : Typed.Outs
+O1 = Typed.withNext (Option.some T2) O0
 
-abbrev pub O2 : Typed.Outs
+abbrev O2 : Typed.Outs
 O2 = Typed.inBlock₀ O1
 
-abbrev pub O3 : Typed.Outs
+abbrev O3 : Typed.Outs
 O3 = Typed.inLoop₀ T2 O2
 
-abbrev pub O4 : Typed.Outs
-O4 = Typed.withNext (Option.some T6) O3
+abbrev O4 : Typed.Outs
+O4 = Typed.withNext (Option.some T2) O3
 
 abbrev pub InvT-loop : Type 1
 InvT-loop = List.List (S.row .Denot) → L.h64 .Mod → List.List (S.row .Denot) → L.h64 .Mod → Type 0
@@ -267,7 +179,7 @@ InvT-loop = List.List (S.row .Denot) → L.h64 .Mod → List.List (S.row .Denot)
 abbrev pub MeasureT-loop : Type 0
 MeasureT-loop = List.List (S.row .Denot) → L.h64 .Mod → List.List (S.row .Denot) → L.h64 .Mod → Nat.ℕ
 
-module _ (claims· : Claims) where
+module _ (cl : Claims) where
   abbrev s0 : Typed.Mo T0 → Typed.Mo T2
   s0 = Scalar.n-use T0 (Scalar.oInt Y.w64 0) 2 L.h64 (Row.sInt Y.w64 .of)
 
@@ -280,100 +192,60 @@ module _ (claims· : Claims) where
   abbrev s3 : Typed.Mo T5 → Typed.Mo T7
   s3 = Scalar.n-room T5 3 (Y.tyInt Y.w64)
 
-  abbrev s4 : Typed.Mo T7 → Typed.Mo T8
+  abbrev s4 : Typed.Mo T7 → Typed.Mo T2
   s4 = Scalar.n-room T7 4 Y.tyBool
 
-  abbrev s5 : Typed.Mo T7 → Typed.Mo T9
-  s5 = Scalar.n-room T7 4 Y.tyBool
-
-  abbrev s7 : Typed.Gives T6 T11
-  s7 = Relend.k-sl-relend S.row T6 1 6 0 1 y0 y1 Row.off λ x. x
+  abbrev s7 : Typed.Gives T2 T11
+  s7 = Relend.k-sl-relend S.row T2 1 6 0 1 y0 y1 Row.off λ x. x
 
   abbrev s8 : Typed.Asks T11 T12
   s8 = Relend.k-sl-aggregate S.row (Relend.asMut S.row) T11 6 7 1 y1 y1 (λ x. x) (Scalar.oFld 1 (Y.field 1 ∷ []) (Y.tyInt Y.w64) 8 λ v. Shared.lenV (v .0))
 
   abbrev s9 : Typed.Both T12 T13
-  s9 = Call.callB ps·0 r·0 (claims· .0) (claims· .1) T12 (record { pos = 7; ty = Y.tyRef Y.erased Y.mut S.named; ref = λ x. x }, (Num.vAt 2 λ x. x, tt)) 5 (1 ∷ []) Y.tyUnit
+  s9 = Call.callB ps·0 r·0 (cl .0) (cl .1) T12 (record { pos = 7; ty = y1; ref = λ x. x }, (Num.vAt 2 λ x. x, tt)) 5 (1 ∷ []) Y.tyUnit
 
   abbrev s10 : Typed.Mo T13 → Typed.Mo T14
   s10 = Scalar.n-room T13 5 Y.tyUnit
 
-  abbrev s12 : Typed.Both T14 T16
+  abbrev s12 : Typed.Both T14 T2
   s12 = Relend.k-back-sl S.row T14 7 1 0 1 y0 y1 Row.off (λ x. x) λ x. x
 
-  abbrev s14 : Typed.Asks T16 T18
-  s14 = Scalar.k-op2 T16 (Y.add Y.unsigned) (Scalar.oAt 2 (Y.tyInt Y.w64) (Row.valS (Row.sInt Y.w64))) (Scalar.oInt Y.w64 1) 2 L.h64 (Row.sInt Y.w64 .of)
+  abbrev s14 : Typed.Asks T2 T2
+  s14 = Scalar.k-op2 T2 (Y.add Y.unsigned) (Scalar.oAt 2 (Y.tyInt Y.w64) (Row.valS (Row.sInt Y.w64))) (Scalar.oInt Y.w64 1) 2 L.h64 (Row.sInt Y.w64 .of)
 
-  abbrev s15 : Typed.Mo T3 → Typed.Mo T19
-  s15 = Scalar.n-use T3 Scalar.oUnit 0 L.hunit (Row.sUnit .of)
+  abbrev s15 : Typed.Mo T2 → Typed.Mo T19
+  s15 = Scalar.n-use T2 Scalar.oUnit 0 L.hunit (Row.sUnit .of)
 
-  abbrev s16 : Typed.Mo T19 → Typed.Mo T20
+  abbrev s16 : Typed.Mo T19 → Typed.Mo T1
   s16 = Scalar.n-room T19 2 (Y.tyInt Y.w64)
 
   abbrev put0 : List.List (S.row .Denot) × L.h64 .Mod → Typed.Mo T2 → Typed.Mo T2
-  put0 = λ vs u. Row.set 2 (2, L.h64) (vs .1) (T2 .locals) (Row.set 1 (1, r1) record { ptr = Row.get 1 (T2 .locals) u .ptr; name = Row.get 1 (T2 .locals) u .name; now = vs .0 } (T2
-      .locals) u)
+  put0 = λ vs u. Row.set 2 (2, L.h64) (vs .1) (T2 .locals) (Row.set 1 (1, r1) record { ptr = Row.get 1 (T2 .locals) u .ptr; name = Row.get 1 (T2 .locals) u .name; now = vs .0 } (T2 .locals)
+      u)
 
   module _ (Pre· : (κs : Lifetimes.Lfts 1) → Kinds.Dens κs ps → Type 0) (Post· : (κs : Lifetimes.Lfts 1) → (a : Kinds.Dens κs ps) → Kinds.Plain 1 ps r κs) where
-    module _ (M : Type 1) where
-      abbrev pub Closed : Type 2
-      Closed = (𝓤 : URA.URA M) (H : Wp.Heap 𝓤) (A : Atoms.Atoms 𝓤) (W : Kit.Given 𝓤 H A) (𝓣 : Wp.Tables 𝓤 H) (known0 : Plain.Known 𝓤 H A W 𝓣 1 ps·0 r·0 (claims· .0) (claims· .1)
-          "samples::clear") → Statement.Triple 𝓤 (Wp.WpFn 𝓤 H (𝓣 .C) (𝓣 .Λ) (Function.fnOf 1 ps r xs m hs body)) (Function.plainOf 𝓤 H A 1 ps r Pre· Post·)
+    abbrev pub Closed : (M : Type 1) → Type 2
+    Closed M = (U : URA.URA M) (H : Wp.Heap U) (A : Atoms.Atoms U) (W : Kit.Given U H A) (C : Wp.Tables U H) (known0 : Plain.Known U H A W C 1 ps·0 r·0 (cl .0) (cl .1) "samples::clear") →
+        Statement.Triple U (Wp.WpFn U H (C .C) (C .Λ) (Function.fnOf 1 ps r xs m hs body)) (Function.plainOf U H A 1 ps r Pre· Post·)
 
     module _ (Inv·0 : InvT-loop) (μ·0 : MeasureT-loop) where
-      abbrev at0 : Typed.TF T8 O4
-      at0 = Typed.atNext O4
-
       abbrev at1 : Typed.TF T7 O4
-      at1 = λ Ψ. Typed.pass T7 T8 s4 (at0 Ψ)
-
-      abbrev at2 : Typed.TF T9 O4
-      at2 = Typed.atExit 1 O4
+      at1 = λ Ψ. Typed.pass T7 T2 s4 (Typed.atNext O4 Ψ)
 
       abbrev at3 : Typed.TF T7 O4
-      at3 = λ Ψ. Typed.pass T7 T9 s5 (at2 Ψ)
-
-      abbrev at4 : Typed.TF T7 O4
-      at4 = Scalar.Φcond T7 O4 4 (λ x. x) at1 at3
+      at3 = λ Ψ. Typed.pass T7 T2 s4 (Typed.atExit 1 O4 Ψ)
 
       abbrev at5 : Typed.TF T5 O4
-      at5 = λ Ψ. Typed.pass T5 T7 s3 (at4 Ψ)
-
-      abbrev at6 : Typed.TF T16 O3
-      at6 = λ Ψ. Typed.ask s14 (Typed.atNext O3 Ψ)
-
-      abbrev at7 : Typed.TF T16 O3
-      at7 = λ Ψ. at6 Ψ
-
-      abbrev at8 : Typed.TF T14 O3
-      at8 = λ Ψ. Typed.both s12 (at7 Ψ)
-
-      abbrev at9 : Typed.TF T14 O3
-      at9 = λ Ψ. at8 Ψ
+      at5 = λ Ψ. Typed.pass T5 T7 s3 (Scalar.Φcond T7 O4 4 (λ x. x) at1 at3 Ψ)
 
       abbrev at10 : Typed.TF T13 O3
-      at10 = λ Ψ. Typed.pass T13 T14 s10 (at9 Ψ)
+      at10 = λ Ψ. Typed.pass T13 T14 s10 (Typed.both s12 (Typed.ask s14 (Typed.atNext O3 Ψ)))
 
-      abbrev at11 : Typed.TF T12 O3
-      at11 = λ Ψ. Typed.both s9 (at10 Ψ)
-
-      abbrev at12 : Typed.TF T11 O3
-      at12 = λ Ψ. Typed.ask s8 (at11 Ψ)
-
-      abbrev at13 : Typed.TF T6 O3
-      at13 = λ Ψ. Typed.give s7 (at12 Ψ)
-
-      abbrev at14 : Typed.TF T6 O3
-      at14 = λ Ψ. at13 Ψ
-
-      abbrev at15 : Typed.TF T5 O3
-      at15 = λ Ψ. at5 (Typed.wantNext T6 O3 (at14 Ψ) Ψ)
-
-      abbrev at16 : Typed.TF T4 O3
-      at16 = λ Ψ. Typed.ask s2 (at15 Ψ)
+      abbrev at14 : Typed.TF T2 O3
+      at14 = λ Ψ. Typed.give s7 (Typed.ask s8 (Typed.both s9 (at10 Ψ)))
 
       abbrev at17 : Typed.TF T2 O3
-      at17 = λ Ψ. Typed.pass T2 T4 s1 (at16 Ψ)
+      at17 = λ Ψ. Typed.pass T2 T4 s1 (Typed.ask s2 (at5 (Typed.wantNext T2 O3 (at14 Ψ) Ψ)))
 
       abbrev at18 : Typed.TF T2 O2
       at18 = Typed.LoopBy T2 O2 put0 (λ u vs. Inv·0 (Row.get 1 (T2 .locals) u .now) (Row.get 2 (T2 .locals) u) (vs .0) (vs .1)) (λ u vs. μ·0 (Row.get 1 (T2 .locals) u .now) (Row.get 2 (T2
@@ -382,112 +254,37 @@ module _ (claims· : Claims) where
       abbrev at19 : Typed.TF T2 O1
       at19 = λ Ψ. at18 (Typed.inBlock O1 Ψ)
 
-      abbrev at20 : Typed.TF T20 O0
-      at20 = Typed.atRet O0
-
-      abbrev at21 : Typed.TF T19 O0
-      at21 = λ Ψ. Typed.pass T19 T20 s16 (at20 Ψ)
-
-      abbrev at22 : Typed.TF T3 O0
-      at22 = λ Ψ. Typed.pass T3 T19 s15 (at21 Ψ)
-
-      abbrev at23 : Typed.TF T2 O0
-      at23 = λ Ψ. at19 (Typed.wantNext T3 O0 (at22 Ψ) Ψ)
+      abbrev at22 : Typed.TF T2 O0
+      at22 = λ Ψ. Typed.pass T2 T19 s15 (Typed.pass T19 T1 s16 (Typed.atRet O0 Ψ))
 
       abbrev at24 : Typed.TF T0 O0
-      at24 = λ Ψ. Typed.pass T0 T2 s0 (at23 Ψ)
+      at24 = λ Ψ. Typed.pass T0 T2 s0 (at19 (Typed.wantNext T2 O0 (at22 Ψ) Ψ))
 
       abbrev pub Φ : Typed.TF T0 O0
       Φ = at24
 
-      module _ {M : Type 1} (𝓤 : URA.URA M) (H : Wp.Heap 𝓤) (A : Atoms.Atoms 𝓤) (W : Kit.Given 𝓤 H A) (𝓣 : Wp.Tables 𝓤 H) where
+      module _ {M : Type 1} (U : URA.URA M) (H : Wp.Heap U) (A : Atoms.Atoms U) (W : Kit.Given U H A) (C : Wp.Tables U H) where
         abbrev Knowns : Type 1
-        Knowns = Plain.Known 𝓤 H A W 𝓣 1 ps·0 r·0 (claims· .0) (claims· .1) "samples::clear"
+        Knowns = Plain.Known U H A W C 1 ps·0 r·0 (cl .0) (cl .1) "samples::clear"
 
       module _ (κs : Lifetimes.Lfts 1) (qs : Lifetimes.Shares 1) where
+        abbrev l0 : Row.Life
+        l0 = Row.lease (κs .0) (qs .0)
+
         abbrev z0 : List.List Row.Life
-        z0 = Row.lease (κs .0) (qs .0) ∷ Row.off ∷ []
-
-        abbrev g6 : List.List Row.Entry
-        g6 = (0, L.gunit) ∷ (1, Relend.mslice-owed S.row y0 0 1 (Row.lease (κs .0) (qs .0))) ∷ (2, L.h64) ∷ (3, L.g64) ∷ (4, L.gbool) ∷ (5, L.gunit) ∷ (6, r3) ∷ (7, r2) ∷ []
-
-        abbrev g7 : List.List Row.Entry
-        g7 = (0, L.gunit) ∷ (1, Relend.mslice-owed S.row y0 0 1 (Row.lease (κs .0) (qs .0))) ∷ (2, L.h64) ∷ (3, L.g64) ∷ (4, L.gbool) ∷ (5, L.gunit) ∷ (6, r6) ∷ (7, r4) ∷ []
-
-        abbrev g8 : List.List Row.Entry
-        g8 = (0, L.gunit) ∷ (1, Relend.mslice-owed S.row y0 0 1 (Row.lease (κs .0) (qs .0))) ∷ (2, L.h64) ∷ (3, L.g64) ∷ (4, L.gbool) ∷ (5, L.hunit) ∷ (6, r6) ∷ (7, r5) ∷ []
-
-        abbrev g9 : List.List Row.Entry
-        g9 = (0, L.gunit) ∷ (1, Relend.mslice-owed S.row y0 0 1 (Row.lease (κs .0) (qs .0))) ∷ (2, L.h64) ∷ (3, L.g64) ∷ (4, L.gbool) ∷ (5, L.gunit) ∷ (6, r6) ∷ (7, r5) ∷ []
-
-        abbrev G0 : Row.Cx
-        G0 = record { locals = t0; slots = z0 }
-
-        abbrev G1 : Row.Cx
-        G1 = record { locals = t1; slots = z0 }
+        z0 = l0 ∷ Row.off ∷ []
 
         abbrev G2 : Row.Cx
-        G2 = record { locals = t2; slots = z0 }
-
-        abbrev G3 : Row.Cx
-        G3 = record { locals = t2; slots = z0 }
-
-        abbrev G4 : Row.Cx
-        G4 = record { locals = t3; slots = z0 }
-
-        abbrev G5 : Row.Cx
-        G5 = record { locals = t4; slots = z0 }
-
-        abbrev G6 : Row.Cx
-        G6 = record { locals = t2; slots = z0 }
+        G2 = lives z0 T2
 
         abbrev G7 : Row.Cx
-        G7 = record { locals = t5; slots = z0 }
-
-        abbrev G8 : Row.Cx
-        G8 = record { locals = t2; slots = z0 }
-
-        abbrev G9 : Row.Cx
-        G9 = record { locals = t2; slots = z0 }
-
-        abbrev G10 : Row.Cx
-        G10 = record { locals = t2; slots = Row.lease (κs .0) (qs .0) ∷ Row.alive ∷ [] }
-
-        abbrev G11 : Row.Cx
-        G11 = record { locals = g6; slots = Row.off ∷ Row.alive ∷ [] }
-
-        abbrev G12 : Row.Cx
-        G12 = record { locals = g7; slots = Row.off ∷ Row.alive ∷ [] }
-
-        abbrev G13 : Row.Cx
-        G13 = record { locals = g8; slots = Row.off ∷ Row.alive ∷ [] }
-
-        abbrev G14 : Row.Cx
-        G14 = record { locals = g9; slots = Row.off ∷ Row.alive ∷ [] }
-
-        abbrev G15 : Row.Cx
-        G15 = record { locals = g9; slots = Row.off ∷ Row.dead ∷ [] }
-
-        abbrev G16 : Row.Cx
-        G16 = record { locals = t2; slots = Row.lease (κs .0) (qs .0) ∷ Row.dead ∷ [] }
-
-        abbrev G17 : Row.Cx
-        G17 = record { locals = t2; slots = z0 }
-
-        abbrev G18 : Row.Cx
-        G18 = record { locals = t2; slots = z0 }
-
-        abbrev G19 : Row.Cx
-        G19 = record { locals = t10; slots = z0 }
-
-        abbrev G20 : Row.Cx
-        G20 = record { locals = t1; slots = z0 }
+        G7 = lives z0 T7
 
         abbrev Δ0 : Typed.Outs
-        Δ0 = record { next = Option.none; exits = []; returns = Option.some G1 }
+        Δ0 = record { next = Option.none; exits = []; returns = Option.some (lives z0 T1) }
 
         abbrev Δ1 : Typed.Outs
-        Δ1 = Typed.withNext (Option.some G3) Δ0
+        Δ1 = Typed.withNext (Option.some G2) Δ0
 
         abbrev Δ2 : Typed.Outs
         Δ2 = Typed.inBlock₀ Δ1
@@ -496,111 +293,72 @@ module _ (claims· : Claims) where
         Δ3 = Typed.inLoop₀ G2 Δ2
 
         abbrev Δ4 : Typed.Outs
-        Δ4 = Typed.withNext (Option.some G6) Δ3
+        Δ4 = Typed.withNext (Option.some G2) Δ3
 
-        module _ {M : Type 1} (𝓤 : URA.URA M) (H : Wp.Heap 𝓤) (A : Atoms.Atoms 𝓤) (W : Kit.Given 𝓤 H A) (𝓣 : Wp.Tables 𝓤 H) (known : Knowns 𝓤 H A W 𝓣) (bs : List.List Nat.ℕ) (bd :
+        module _ {M : Type 1} (U : URA.URA M) (H : Wp.Heap U) (A : Atoms.Atoms U) (W : Kit.Given U H A) (C : Wp.Tables U H) (known : Knowns U H A W C) (bs : List.List Nat.ℕ) (bd :
             Lifetimes.AllOutlive 1 (Kinds.osR r) κs) where
-          abbrev E : Wp.Env 𝓤 H
-          E = Frame.EnvOf 𝓤 H (Kinds.tyR r ∷ (Enter.tysP ps xs)) bs
+          abbrev E : Wp.Env U H
+          E = Frame.EnvOf U H (Kinds.tyR r ∷ (Enter.tysP ps xs)) bs
 
-          d0 : Typed.Typed 𝓤 H A 𝓣 E G8 b3 Δ4 at0
-          d0 = Typed.t-skip 𝓤 H A W 𝓣 E Δ4 tt
+          pre : {Γ Γ₁ : Row.Cx} {b : Y.Body} {Δ : Typed.Outs} {φ : Typed.Tf Γ Γ₁} {Φ : Typed.TF Γ₁ Δ} → Typed.Ghost U H A E Γ Γ₁ φ → Typed.Typed U H A C E Γ₁ b Δ Φ → Typed.Typed U H A C E Γ
+              b Δ (λ Ψ. φ (Φ Ψ))
+          pre = Typed.g-pre U H A W C E _ _ _ _ _ _
 
-          d1 : Typed.Typed 𝓤 H A 𝓣 E G7 b3 Δ4 at1
-          d1 = Typed.g-pre 𝓤 H A W 𝓣 E G7 G8 b3 Δ4 (Typed.pass T7 T8 s4) at0 (Scalar.g-room 𝓤 H A W E G7 4 Y.tyBool (Scalar.room-sc 𝓤 H A W Row.sBool)) d0
+          seq : {Γ Γ₁ : Row.Cx} {a b : Y.Body} {Δ : Typed.Outs} {φ : Typed.Tf Γ Γ₁} {Φ : Typed.TF Γ₁ Δ} → Typed.Stmt U H A C E Γ a Γ₁ φ → Typed.Typed U H A C E Γ₁ b Δ Φ → Typed.Typed U H A C
+              E Γ (Y.seq a b) Δ (λ Ψ. φ (Φ Ψ))
+          seq = Typed.s-seq U H A W C E _ _ _ _ _ _ _
 
-          d2 : Typed.Typed 𝓤 H A 𝓣 E G9 b4 Δ4 at2
-          d2 = Typed.t-exit 𝓤 H A W 𝓣 E 1 Δ4 tt
+          gone : (τ : Y.Ty) → Reads.ToRoom U H A (Rows.any-gone τ) τ
+          gone = Reads.room-gone U H A
 
-          d3 : Typed.Typed 𝓤 H A 𝓣 E G7 b4 Δ4 at3
-          d3 = Typed.g-pre 𝓤 H A W 𝓣 E G7 G9 b4 Δ4 (Typed.pass T7 T9 s5) at2 (Scalar.g-room 𝓤 H A W E G7 4 Y.tyBool (Scalar.room-sc 𝓤 H A W Row.sBool)) d2
+          d1 : Typed.Typed U H A C E G7 b3 Δ4 at1
+          d1 = pre (Scalar.g-room U H A W E _ 4 Y.tyBool (Scalar.room-sc U H A W Row.sBool)) (Typed.t-skip U H A W C E Δ4 tt)
 
-          d4 : Typed.Typed 𝓤 H A 𝓣 E G7 b5 Δ4 at4
-          d4 = Scalar.t-cond 𝓤 H A W E 𝓣 G7 4 (λ x. x) b3 b4 Δ4 at1 at3 (Scalar.reads-sc 𝓤 H A W Row.sBool) refl d1 d3
+          d3 : Typed.Typed U H A C E G7 b4 Δ4 at3
+          d3 = pre (Scalar.g-room U H A W E _ 4 Y.tyBool (Scalar.room-sc U H A W Row.sBool)) (Typed.t-exit U H A W C E 1 Δ4 tt)
 
-          d5 : Typed.Typed 𝓤 H A 𝓣 E G5 b5 Δ4 at5
-          d5 = Typed.g-pre 𝓤 H A W 𝓣 E G5 G7 b5 Δ4 (Typed.pass T5 T7 s3) at4 (Scalar.g-room 𝓤 H A W E G5 3 (Y.tyInt Y.w64) (Scalar.room-sc 𝓤 H A W (Row.sInt Y.w64))) d4
+          d5 : Typed.Typed U H A C E (lives z0 T5) b5 Δ4 at5
+          d5 = pre (Scalar.g-room U H A W E _ 3 (Y.tyInt Y.w64) (Scalar.room-sc U H A W (Row.sInt Y.w64))) (Scalar.t-cond U H A W E C _ 4 (λ x. x) b3 b4 Δ4 at1 at3 (Scalar.reads-sc U H A W
+              Row.sBool) refl d1 d3)
 
-          d6 : Typed.Typed 𝓤 H A 𝓣 E G17 b9 Δ3 at6
-          d6 = Typed.s-typed 𝓤 H A W 𝓣 E G17 b9 Δ3 (Typed.ask s14) tt (Scalar.t-op2 𝓤 H A W E 𝓣 G17 (Y.add Y.unsigned) (Scalar.oAt 2 (Y.tyInt Y.w64) (Row.valS (Row.sInt Y.w64)))
-              (Scalar.oInt Y.w64 1) 2 L.h64 (Y.tyInt Y.w64) (Row.valS (Row.sInt Y.w64)) (Row.sInt Y.w64 .of) (Scalar.reads-sc 𝓤 H A W (Row.sInt Y.w64), refl) tt (Scalar.room-sc 𝓤 H A W
-              (Row.sInt Y.w64)) (Scalar.holds-sc 𝓤 H A W (Row.sInt Y.w64)) refl (λ u. refl) λ u. tt)
+          d10 : Typed.Typed U H A C E (lives (Row.off ∷ Row.alive ∷ []) (on 1 (Relend.mslice-owed S.row y0 0 1 l0) T13)) b9 Δ3 at10
+          d10 = pre (Scalar.g-room U H A W E _ 5 Y.tyUnit (Scalar.room-sc U H A W Row.sUnit)) (pre (Lifetime.g-end U H A W E _ 1 refl) (pre (Relend.g-back-sl U H A W E S.row _ 7 1 0 1 y0 y1
+              l0 (λ x. x) (λ x. x) (Reads.as-is U H A r5) (Reads.as-is U H A (Relend.mslice-owed S.row y0 0 1 l0)) refl refl) (pre (Lifetime.g-forget U H A W E _ 1 Row.dead refl)
+              (Typed.s-typed U H A W C E _ b9 Δ3 (Typed.ask s14) tt (Scalar.t-op2 U H A W E C _ (Y.add Y.unsigned) (Scalar.oAt 2 (Y.tyInt Y.w64) (Row.valS (Row.sInt Y.w64))) (Scalar.oInt
+              Y.w64 1) 2 L.h64 (Y.tyInt Y.w64) (Row.valS (Row.sInt Y.w64)) (Row.sInt Y.w64 .of) (Scalar.reads-sc U H A W (Row.sInt Y.w64), refl) tt (Scalar.room-sc U H A W (Row.sInt Y.w64))
+              (Scalar.holds-sc U H A W (Row.sInt Y.w64)) refl (λ u. refl) λ u. tt)))))
 
-          d7 : Typed.Typed 𝓤 H A 𝓣 E G16 b9 Δ3 at7
-          d7 = Typed.g-pre 𝓤 H A W 𝓣 E G16 G17 b9 Δ3 (λ Ψ. Ψ) at6 (Lifetime.g-forget 𝓤 H A W E G16 1 Row.dead refl) d6
+          d14 : Typed.Typed U H A C E G2 b12 Δ3 at14
+          d14 = pre (Lifetime.g-begin U H A W E _ 1 (tt, (tt, (tt, (tt, (tt, (tt, (tt, (tt, tt))))))))) (seq (Relend.t-sl-relend U H A W E S.row C _ 1 6 0 1 y0 y1 l0 0 (λ x. x) (Reads.as-is
+              U H A r1) (gone y1) refl tt refl refl refl λ b o. tt) (seq (Relend.t-sl-aggregate U H A W E S.row C (Relend.asMut S.row) _ 6 7 1 y1 y1 (λ x. x) (Scalar.oFld 1 (Y.field 1 ∷ [])
+              (Y.tyInt Y.w64) 8 λ v. Shared.lenV (v .0)) (Reads.as-is U H A r3) (gone (L.sl y1)) (Relend.reads-owed-len U H A W S.row y0 0 1 l0 8 refl, refl) refl refl λ b o k. tt) (seq
+              (Plain.t-call-plain U H A W C 1 ps·0 r·0 (cl .0) (cl .1) "samples::clear" known E (λ pos β. β) _ (record { pos = 7; ty = y1; ref = λ x. x }, (Num.vAt 2 λ x. x, tt)) 5 (1 ∷ [])
+              (Call.sub-id U H A W _) (Reads.as-is U H A r4, Mut.reads-mslice U H A W S.row y1 1, refl, ((Scalar.reads-sc U H A W (Row.sInt Y.w64), refl), tt)) (gone Y.tyUnit) (tt, tt) refl)
+              d10)))
 
-          d8 : Typed.Typed 𝓤 H A 𝓣 E G15 b9 Δ3 at8
-          d8 = Typed.g-pre 𝓤 H A W 𝓣 E G15 G16 b9 Δ3 (Typed.both s12) at7 (Relend.g-back-sl 𝓤 H A W E S.row G15 7 1 0 1 y0 y1 (Row.lease (κs .0) (qs .0)) (λ x. x) (λ x. x) (Reads.as-is 𝓤 H
-              A r5) (Reads.as-is 𝓤 H A (Relend.mslice-owed S.row y0 0 1 (Row.lease (κs .0) (qs .0)))) refl refl) d7
+          d17 : Typed.Typed U H A C E G2 b15 Δ3 at17
+          d17 = seq (Scalar.t-use U H A W E C _ (Scalar.oFld 1 (Y.field 1 ∷ []) (Y.tyInt Y.w64) 8 Shared.lenV) 3 L.h64 (Y.tyInt Y.w64) (Row.valS (Row.sInt Y.w64)) (Row.sInt Y.w64 .of)
+              (Mut.reads-mslice-len U H A W S.row y0 0 8 refl, refl) (gone (Y.tyInt Y.w64)) (Scalar.holds-sc U H A W (Row.sInt Y.w64)) refl (λ u. refl) λ u. tt) (seq (Scalar.t-op2 U H A W E
+              C _ (Y.lt Y.unsigned) (Scalar.oAt 2 (Y.tyInt Y.w64) (Row.valS (Row.sInt Y.w64))) (Scalar.oAt 3 (Y.tyInt Y.w64) (Row.valS (Row.sInt Y.w64))) 4 L.hbool Y.tyBool (Row.valS
+              Row.sBool) (Row.sBool .of) (Scalar.reads-sc U H A W (Row.sInt Y.w64), refl) (Scalar.reads-sc U H A W (Row.sInt Y.w64), refl) (gone Y.tyBool) (Scalar.holds-sc U H A W Row.sBool)
+              refl (λ u. refl) λ u. tt) (Typed.t-seq U H A W C E _ _ b5 b12 Δ3 at5 at14 d5 d14))
 
-          d9 : Typed.Typed 𝓤 H A 𝓣 E G14 b9 Δ3 at9
-          d9 = Typed.g-pre 𝓤 H A W 𝓣 E G14 G15 b9 Δ3 (λ Ψ. Ψ) at8 (Lifetime.g-end 𝓤 H A W E G14 1 refl) d8
-
-          d10 : Typed.Typed 𝓤 H A 𝓣 E G13 b9 Δ3 at10
-          d10 = Typed.g-pre 𝓤 H A W 𝓣 E G13 G14 b9 Δ3 (Typed.pass T13 T14 s10) at9 (Scalar.g-room 𝓤 H A W E G13 5 Y.tyUnit (Scalar.room-sc 𝓤 H A W Row.sUnit)) d9
-
-          d11 : Typed.Typed 𝓤 H A 𝓣 E G12 b10 Δ3 at11
-          d11 = Typed.s-seq 𝓤 H A W 𝓣 E G12 G13 b8 b9 Δ3 (Typed.both s9) at10 (Plain.t-call-plain 𝓤 H A W 𝓣 1 ps·0 r·0 (claims· .0) (claims· .1) "samples::clear" known E (λ pos β. β) G12
-              (record { pos = 7; ty = Y.tyRef Y.erased Y.mut S.named; ref = λ x. x }, (Num.vAt 2 λ x. x, tt)) 5 (1 ∷ []) (Call.sub-id 𝓤 H A W (G12 .slots)) (
-                Reads.as-is 𝓤 H A r4,
-                Mut.reads-mslice 𝓤 H A W S.row y1 1,
-                refl,
-                ((Scalar.reads-sc 𝓤 H A W (Row.sInt Y.w64), refl), tt),
-              ) (Reads.room-gone 𝓤 H A Y.tyUnit) (tt, tt) refl) d10
-
-          d12 : Typed.Typed 𝓤 H A 𝓣 E G11 b11 Δ3 at12
-          d12 = Typed.s-seq 𝓤 H A W 𝓣 E G11 G12 b7 b10 Δ3 (Typed.ask s8) at11 (Relend.t-sl-aggregate 𝓤 H A W E S.row 𝓣 (Relend.asMut S.row) G11 6 7 1 y1 y1 (λ x. x) (Scalar.oFld 1 (Y.field
-              1 ∷ []) (Y.tyInt Y.w64) 8 λ v. Shared.lenV (v .0)) (Reads.as-is 𝓤 H A r3) (Reads.room-gone 𝓤 H A (L.sl y1)) (
-                Relend.reads-owed-len 𝓤 H A W S.row y0 0 1 (Row.lease (κs .0) (qs
-                    .0)) 8 refl,
-                refl,
-              ) refl refl λ b o k. tt) d11
-
-          d13 : Typed.Typed 𝓤 H A 𝓣 E G10 b12 Δ3 at13
-          d13 = Typed.s-seq 𝓤 H A W 𝓣 E G10 G11 b6 b11 Δ3 (Typed.give s7) at12 (Relend.t-sl-relend 𝓤 H A W E S.row 𝓣 G10 1 6 0 1 y0 y1 (Row.lease (κs .0) (qs .0)) 0 (λ x. x) (Reads.as-is 𝓤
-              H A r1) (Reads.room-gone 𝓤 H A y1) refl tt refl refl refl λ b o. tt) d12
-
-          d14 : Typed.Typed 𝓤 H A 𝓣 E G6 b12 Δ3 at14
-          d14 = Typed.g-pre 𝓤 H A W 𝓣 E G6 G10 b12 Δ3 (λ Ψ. Ψ) at13 (Lifetime.g-begin 𝓤 H A W E G6 1 (tt, (tt, (tt, (tt, (tt, (tt, (tt, (tt, tt))))))))) d13
-
-          d15 : Typed.Typed 𝓤 H A 𝓣 E G5 b13 Δ3 at15
-          d15 = Typed.t-seq 𝓤 H A W 𝓣 E G5 G6 b5 b12 Δ3 at5 at14 d5 d14
-
-          d16 : Typed.Typed 𝓤 H A 𝓣 E G4 b14 Δ3 at16
-          d16 = Typed.s-seq 𝓤 H A W 𝓣 E G4 G5 b2 b13 Δ3 (Typed.ask s2) at15 (Scalar.t-op2 𝓤 H A W E 𝓣 G4 (Y.lt Y.unsigned) (Scalar.oAt 2 (Y.tyInt Y.w64) (Row.valS (Row.sInt Y.w64)))
-              (Scalar.oAt 3 (Y.tyInt Y.w64) (Row.valS (Row.sInt Y.w64))) 4 L.hbool Y.tyBool (Row.valS Row.sBool) (Row.sBool .of) (Scalar.reads-sc 𝓤 H A W (Row.sInt Y.w64), refl)
-              (Scalar.reads-sc 𝓤 H A W (Row.sInt Y.w64), refl) (Reads.room-gone 𝓤 H A Y.tyBool) (Scalar.holds-sc 𝓤 H A W Row.sBool) refl (λ u. refl) λ u. tt) d15
-
-          d17 : Typed.Typed 𝓤 H A 𝓣 E G2 b15 Δ3 at17
-          d17 = Typed.s-seq 𝓤 H A W 𝓣 E G2 G4 b1 b14 Δ3 (Typed.pass T2 T4 s1) at16 (Scalar.t-use 𝓤 H A W E 𝓣 G2 (Scalar.oFld 1 (Y.field 1 ∷ []) (Y.tyInt Y.w64) 8 Shared.lenV) 3 L.h64
-              (Y.tyInt Y.w64) (Row.valS (Row.sInt Y.w64)) (Row.sInt Y.w64 .of) (Mut.reads-mslice-len 𝓤 H A W S.row y0 0 8 refl, refl) (Reads.room-gone 𝓤 H A (Y.tyInt Y.w64))
-              (Scalar.holds-sc 𝓤 H A W (Row.sInt Y.w64)) refl (λ u. refl) λ u. tt) d16
-
-          d18 : Typed.Typed 𝓤 H A 𝓣 E G2 b16 Δ2 at18
-          d18 = Typed.t-loop-by 𝓤 H A W 𝓣 E G2 b15 Δ2 put0 (λ u vs. Inv·0 (Row.get 1 (T2 .locals) u .now) (Row.get 2 (T2 .locals) u) (vs .0) (vs .1)) (λ u vs. μ·0 (Row.get 1 (T2 .locals) u
+          d18 : Typed.Typed U H A C E G2 b16 Δ2 at18
+          d18 = Typed.t-loop-by U H A W C E _ b15 Δ2 put0 (λ u vs. Inv·0 (Row.get 1 (T2 .locals) u .now) (Row.get 2 (T2 .locals) u) (vs .0) (vs .1)) (λ u vs. μ·0 (Row.get 1 (T2 .locals) u
               .now) (Row.get 2 (T2 .locals) u) (vs .0) (vs .1)) at17 d17
 
-          d19 : Typed.Typed 𝓤 H A 𝓣 E G2 b17 Δ1 at19
-          d19 = Typed.t-block 𝓤 H A W 𝓣 E G2 b16 Δ1 at18 d18
+          d19 : Typed.Typed U H A C E G2 b17 Δ1 at19
+          d19 = Typed.t-block U H A W C E _ b16 Δ1 at18 d18
 
-          d20 : Typed.Typed 𝓤 H A 𝓣 E G20 b19 Δ0 at20
-          d20 = Typed.t-return 𝓤 H A W 𝓣 E Δ0 tt
+          d22 : Typed.Typed U H A C E G2 b20 Δ0 at22
+          d22 = seq (Scalar.t-use U H A W E C _ Scalar.oUnit 0 L.hunit Y.tyUnit (Row.valS Row.sUnit) (Row.sUnit .of) tt (gone Y.tyUnit) (Scalar.holds-sc U H A W Row.sUnit) refl (λ u. refl) λ
+              u. tt) (pre (Scalar.g-room U H A W E _ 2 (Y.tyInt Y.w64) (Scalar.room-sc U H A W (Row.sInt Y.w64))) (Typed.t-return U H A W C E Δ0 tt))
 
-          d21 : Typed.Typed 𝓤 H A 𝓣 E G19 b19 Δ0 at21
-          d21 = Typed.g-pre 𝓤 H A W 𝓣 E G19 G20 b19 Δ0 (Typed.pass T19 T20 s16) at20 (Scalar.g-room 𝓤 H A W E G19 2 (Y.tyInt Y.w64) (Scalar.room-sc 𝓤 H A W (Row.sInt Y.w64))) d20
+          d24 : Typed.Typed U H A C E (lives z0 T0) b22 Δ0 at24
+          d24 = seq (Scalar.t-use U H A W E C _ (Scalar.oInt Y.w64 0) 2 L.h64 (Y.tyInt Y.w64) (Row.valS (Row.sInt Y.w64)) (Row.sInt Y.w64 .of) tt (gone (Y.tyInt Y.w64)) (Scalar.holds-sc U H
+              A W (Row.sInt Y.w64)) refl (λ u. refl) λ u. tt) (Typed.t-seq U H A W C E _ _ b17 b20 Δ0 at19 at22 d19 d22)
 
-          d22 : Typed.Typed 𝓤 H A 𝓣 E G3 b20 Δ0 at22
-          d22 = Typed.s-seq 𝓤 H A W 𝓣 E G3 G19 b18 b19 Δ0 (Typed.pass T3 T19 s15) at21 (Scalar.t-use 𝓤 H A W E 𝓣 G3 Scalar.oUnit 0 L.hunit Y.tyUnit (Row.valS Row.sUnit) (Row.sUnit .of) tt
-              (Reads.room-gone 𝓤 H A Y.tyUnit) (Scalar.holds-sc 𝓤 H A W Row.sUnit) refl (λ u. refl) λ u. tt) d21
-
-          d23 : Typed.Typed 𝓤 H A 𝓣 E G2 b21 Δ0 at23
-          d23 = Typed.t-seq 𝓤 H A W 𝓣 E G2 G3 b17 b20 Δ0 at19 at22 d19 d22
-
-          d24 : Typed.Typed 𝓤 H A 𝓣 E G0 b22 Δ0 at24
-          d24 = Typed.s-seq 𝓤 H A W 𝓣 E G0 G2 b0 b21 Δ0 (Typed.pass T0 T2 s0) at23 (Scalar.t-use 𝓤 H A W E 𝓣 G0 (Scalar.oInt Y.w64 0) 2 L.h64 (Y.tyInt Y.w64) (Row.valS (Row.sInt Y.w64))
-              (Row.sInt Y.w64 .of) tt (Reads.room-gone 𝓤 H A (Y.tyInt Y.w64)) (Scalar.holds-sc 𝓤 H A W (Row.sInt Y.w64)) refl (λ u. refl) λ u. tt) d23
-
-          pub typed : Typed.Typed 𝓤 H A 𝓣 E (Function.Γin 1 ps r xs m κs qs) b22 (Function.Δret 1 ps r xs m κs qs) Φ
+          pub typed : Typed.Typed U H A C E (Function.Γin 1 ps r xs m κs qs) b22 (Function.Δret 1 ps r xs m κs qs) Φ
           typed = d24
 
       module _ (κs : Lifetimes.Lfts 1) where
@@ -608,18 +366,7 @@ module _ (claims· : Claims) where
           pub t : Kinds.Den {n = 1} κs (MutSlice.pMutS S.row 0 tt)
 
         abbrev pub dens : (a : Args) → Kinds.Dens κs ps
-        dens = λ a. (a .t, tt)
-
-      abbrev pub m0 : (κs : Lifetimes.Lfts 1) → (args : Args κs) → Typed.Mo T0
-      m0 = λ κs args. (tt, Enter.partsP κs 1 ps xs (dens κs args))
-
-      abbrev W0 : (κs : Lifetimes.Lfts 1) → (args : Args κs) → Typed.Want O0
-      W0 = λ κs args. (
-        λ u. ⊥,
-        tt,
-        λ u. Enter.Fixs κs 1 ps xs (dens κs args) (u .1) × Post· κs (dens κs args) (Function.resV r κs (u .0)) (Clauses.atExit (Kinds.endedOf 1 ps r) κs (dens κs
-            args) (Enter.lastsP κs 1 ps xs (dens κs args) (u .1))),
-      )
+        dens a = (a .t, tt)
 
       pub record Start : Type 0 where
         pub κs : Lifetimes.Lfts 1
@@ -627,265 +374,165 @@ module _ (claims· : Claims) where
         pub good : Kinds.GoodsP κs ps (dens κs args)
         pub pre : Pre· κs (dens κs args)
 
-      abbrev pub m1 : (κs : Lifetimes.Lfts 1) → (args : Args κs) → Typed.Mo T2
-      m1 = λ κs args. s0 (m0 κs args)
+      abbrev passed : (c : Start) → Kinds.Dens (c .κs) ps
+      passed c = dens (c .κs) (c .args)
 
-      abbrev W1 : (κs : Lifetimes.Lfts 1) → (args : Args κs) → Typed.Want O1
-      W1 = λ κs args. Typed.wantNext T3 O0 (at22 (W0 κs args)) (W0 κs args)
+      abbrev m0 : (c : Start) → Typed.Mo T0
+      m0 c = (tt, Enter.partsP (c .κs) 1 ps xs (passed c))
 
-      abbrev W2 : (κs : Lifetimes.Lfts 1) → (args : Args κs) → Typed.Want O2
-      W2 = λ κs args. Typed.inBlock O1 (W1 κs args)
+      abbrev Owed : (c : Start) → Typed.Mo T1 → Type 0
+      Owed c u = Post· (c .κs) (passed c) (Function.resV r (c .κs) (u .0)) (Clauses.atExit (Kinds.endedOf 1 ps r) (c .κs) (passed c) (Enter.lastsP (c .κs) 1 ps xs (passed c) (u .1)))
+
+      abbrev W0 : (c : Start) → Typed.Want O0
+      W0 c = (λ u. ⊥, tt, λ u. Enter.Fixs (c .κs) 1 ps xs (passed c) (u .1) × Owed c u)
+
+      abbrev m1 : (c : Start) → Typed.Mo T2
+      m1 c = s0 (m0 c)
+
+      abbrev W1 : (c : Start) → Typed.Want O1
+      W1 c = Typed.wantNext T2 O0 (at22 (W0 c)) (W0 c)
+
+      abbrev W2 : (c : Start) → Typed.Want O2
+      W2 c = Typed.inBlock O1 (W1 c)
 
       abbrev pub Need-loop-holds : Type 0
-      Need-loop-holds = (c : Start) → Inv·0 (Row.get 1 (T2 .locals) (m1 (c .κs) (c .args)) .now) (Row.get 2 (T2 .locals) (m1 (c .κs) (c .args))) (Row.get 1 (T2 .locals) (m1 (c .κs) (c
-          .args)) .now) (Row.get 2 (T2 .locals) (m1 (c .κs) (c .args)))
+      Need-loop-holds = (c : Start) → Inv·0 (Row.get 1 (T2 .locals) (m1 c) .now) (Row.get 2 (T2 .locals) (m1 c)) (Row.get 1 (T2 .locals) (m1 c) .now) (Row.get 2 (T2 .locals) (m1 c))
 
-      abbrev pub m2 : (before : Start) → (t : List.List (S.row .Denot)) → (i : L.h64 .Mod) → Typed.Mo T2
-      m2 = λ before t i. Row.set 2 (2, L.h64) i (Row.setRow 1 (1, r1) (T2 .locals)) (Row.set 1 (1, r1) record {
-        ptr = Row.get 1 (T2 .locals) (m1 (before .κs) (before .args)) .ptr;
-        name =
-            Row.get 1 (T2 .locals) (m1 (before .κs) (before .args)) .name;
-        now = t;
-      } (T2 .locals) (m1 (before .κs) (before .args)))
+      abbrev m2 : (before : Start) → (t : List.List (S.row .Denot)) → (i : L.h64 .Mod) → Typed.Mo T2
+      m2 before t i = Row.set 2 (2, L.h64) i (Row.setRow 1 (1, r1) (T2 .locals)) (Row.set 1 (1, r1) record
+          { ptr = Row.get 1 (T2 .locals) (m1 before) .ptr; name = Row.get 1 (T2 .locals) (m1 before) .name; now = t } (T2 .locals) (m1 before))
 
-      abbrev W3 : (before : Start) → (t : List.List (S.row .Denot)) → (i : L.h64 .Mod) → Typed.Want O3
-      W3 = λ before t i. Typed.inLoop T2 O2 (Typed.Round T2 O2 put0 (λ u vs. Inv·0 (Row.get 1 (T2 .locals) u .now) (Row.get 2 (T2 .locals) u) (vs .0) (vs .1)) (λ u vs. μ·0 (Row.get 1 (T2
-          .locals) u .now) (Row.get 2 (T2 .locals) u) (vs .0) (vs .1)) at17 (m1 (before .κs) (before .args)) (t, i)) (W2 (before .κs) (before .args))
+      abbrev W3 : (c : Start) → (t : List.List (S.row .Denot)) → (i : L.h64 .Mod) → Typed.Want O3
+      W3 c t i = Typed.inLoop T2 O2 (Typed.Round T2 O2 put0 (λ u vs. Inv·0 (Row.get 1 (T2 .locals) u .now) (Row.get 2 (T2 .locals) u) (vs .0) (vs .1)) (λ u vs. μ·0 (Row.get 1 (T2 .locals) u
+          .now) (Row.get 2 (T2 .locals) u) (vs .0) (vs .1)) at17 (m1 c) (t, i)) (W2 c)
 
-      abbrev pub m3 : (before : Start) → (t : List.List (S.row .Denot)) → (i : L.h64 .Mod) → Typed.Mo T4
-      m3 = λ before t i. s1 (m2 before t i)
+      abbrev m3 : (c : Start) → (t : List.List (S.row .Denot)) → (i : L.h64 .Mod) → Typed.Mo T4
+      m3 c t i = s1 (m2 c t i)
 
-      abbrev pub m4 : (before : Start) → (t : List.List (S.row .Denot)) → (i : L.h64 .Mod) → Typed.Mo T5
-      m4 = λ before t i. s2 .next (m3 before t i)
+      abbrev m4 : (c : Start) → (t : List.List (S.row .Denot)) → (i : L.h64 .Mod) → Typed.Mo T5
+      m4 c t i = s2 .next (m3 c t i)
 
-      abbrev W4 : (before : Start) → (t : List.List (S.row .Denot)) → (i : L.h64 .Mod) → Typed.Want O4
-      W4 = λ before t i. Typed.wantNext T6 O3 (at14 (W3 before t i)) (W3 before t i)
+      abbrev W4 : (c : Start) → (t : List.List (S.row .Denot)) → (i : L.h64 .Mod) → Typed.Want O4
+      W4 c t i = Typed.wantNext T2 O3 (at14 (W3 c t i)) (W3 c t i)
 
-      abbrev pub m5 : (before : Start) → (t : List.List (S.row .Denot)) → (i : L.h64 .Mod) → Typed.Mo T7
-      m5 = λ before t i. s3 (m4 before t i)
+      abbrev m5 : (c : Start) → (t : List.List (S.row .Denot)) → (i : L.h64 .Mod) → Typed.Mo T7
+      m5 c t i = s3 (m4 c t i)
 
-      module _ (before· : Start) where
-        pub record At-loop·own : Type 0 where
-          pub t : List.List (S.row .Denot)
-          pub i : L.h64 .Mod
-          pub inv : Inv·0 (Row.get 1 (T2 .locals) (m1 (before· .κs) (before· .args)) .now) (Row.get 2 (T2 .locals) (m1 (before· .κs) (before· .args))) t i
+      pub record At-loop·own (c : Start) : Type 0 where
+        pub t : List.List (S.row .Denot)
+        pub i : L.h64 .Mod
+        pub inv : Inv·0 (Row.get 1 (T2 .locals) (m1 c) .now) (Row.get 2 (T2 .locals) (m1 c)) t i
 
       pub record At-loop : Type 0 where
         pub before : Start
         pub loop : At-loop·own before
 
-      module _ (before· : At-loop) where
-        pub record In-loop·own : Type 0 where
-          pub taken : Nat._<_ (Row.get 2 (T4 .locals) (m3 (before· .before) (before· .loop .t) (before· .loop .i))) (Row.get 3 (T4 .locals) (m3 (before· .before) (before· .loop .t) (before·
-              .loop .i)))
+      pub record In-loop·own (c : At-loop) : Type 0 where
+        pub taken : Nat._<_ (Row.get 2 (T4 .locals) (m3 (c .before) (c .loop .t) (c .loop .i))) (Row.get 3 (T4 .locals) (m3 (c .before) (c .loop .t) (c .loop .i)))
 
       pub record In-loop : Type 0 where
         pub before : At-loop
         pub loop-test : In-loop·own before
 
-      abbrev pub m6 : (before : At-loop) → Typed.Mo T8
-      m6 = λ before. s4 (m5 (before .before) (before .loop .t) (before .loop .i))
+      abbrev m6 : (c : At-loop) → Typed.Mo T2
+      m6 c = s4 (m5 (c .before) (c .loop .t) (c .loop .i))
 
-      module _ (before· : At-loop) where
-        pub record After-loop·own : Type 0 where
-          pub left : Nat._≤_ (Row.get 3 (T4 .locals) (m3 (before· .before) (before· .loop .t) (before· .loop .i))) (Row.get 2 (T4 .locals) (m3 (before· .before) (before· .loop .t) (before·
-              .loop .i)))
+      pub record After-loop·own (c : At-loop) : Type 0 where
+        pub left : Nat._≤_ (Row.get 3 (T4 .locals) (m3 (c .before) (c .loop .t) (c .loop .i))) (Row.get 2 (T4 .locals) (m3 (c .before) (c .loop .t) (c .loop .i)))
 
       pub record After-loop : Type 0 where
         pub before : At-loop
         pub loop-test : After-loop·own before
 
-      abbrev pub m7 : (before : At-loop) → Typed.Mo T9
-      m7 = λ before. s5 (m5 (before .before) (before .loop .t) (before .loop .i))
-
-      abbrev pub m8 : (before : In-loop) → (given : s7 .gives (m6 (before .before))) → Typed.Mo T11
-      m8 = λ before given. s7 .next (m6 (before .before)) given
-
-      abbrev pub m9 : (before : In-loop) → (given : s7 .gives (m6 (before .before))) → Typed.Mo T12
-      m9 = λ before given. s8 .next (m8 before given)
-
-      module _ (before· : In-loop) where
-        pub record After-clear-arg·own : Type 0 where
-          pub given : s7 .gives (m6 (before· .before))
+      pub record After-clear-arg·own (c : In-loop) : Type 0 where
+        pub given : s7 .gives (m6 (c .before))
 
       pub record After-clear-arg : Type 0 where
         pub before : In-loop
         pub clear-arg : After-clear-arg·own before
 
+      abbrev m9 : (c : After-clear-arg) → Typed.Mo T12
+      m9 c = s8 .next (s7 .next (m6 (c .before .before)) (c .clear-arg .given))
+
       abbrev pub Need-clear-requires : Type 0
-      Need-clear-requires = (c : After-clear-arg) → s9 .asks (m9 (c .before) (c .clear-arg .given))
+      Need-clear-requires = (c : After-clear-arg) → s9 .asks (m9 c)
 
-      abbrev pub m10 : (before : After-clear-arg) → (given : s9 .gives (m9 (before .before) (before .clear-arg .given))) → Typed.Mo T13
-      m10 = λ before given. s9 .next (m9 (before .before) (before .clear-arg .given)) given
-
-      module _ (before· : After-clear-arg) where
-        abbrev pub After-clear·own : Type 0
-        After-clear·own = Called.Called ps·0 r·0 (claims· .1) T12 (record { pos = 7; ty = Y.tyRef Y.erased Y.mut S.named; ref = λ x. x }, (Num.vAt 2 λ x. x, tt)) (m9 (before· .before)
-            (before· .clear-arg .given))
+      abbrev pub After-clear·own : (c : After-clear-arg) → Type 0
+      After-clear·own c = Called.Called ps·0 r·0 (cl .1) T12 (record { pos = 7; ty = y1; ref = λ x. x }, (Num.vAt 2 λ x. x, tt)) (m9 c)
 
       pub record After-clear : Type 0 where
         pub before : After-clear-arg
         pub clear : After-clear·own before
 
-      abbrev pub After-clear·gave : (c : After-clear) → s9 .gives (m9 (c .before .before) (c .before .clear-arg .given))
-      After-clear·gave = λ c. Called.given ps·0 r·0 (claims· .1) T12 (record { pos = 7; ty = Y.tyRef Y.erased Y.mut S.named; ref = λ x. x }, (Num.vAt 2 λ x. x, tt)) (m9 (c .before .before)
-          (c .before .clear-arg .given)) (c .clear)
+      abbrev pub After-clear·gave : (c : After-clear) → s9 .gives (m9 (c .before))
+      After-clear·gave c = Called.given _ _ _ _ _ _ (c .clear)
 
-      abbrev pub m11 : (before : After-clear-arg) → (given : s9 .gives (m9 (before .before) (before .clear-arg .given))) → Typed.Mo T14
-      m11 = λ before given. s10 (m10 before given)
+      abbrev m10 : (c : After-clear) → Typed.Mo T13
+      m10 c = s9 .next (m9 (c .before)) (After-clear·gave c)
 
-      abbrev pub m12 : (before : After-clear) → (given : s12 .gives (m11 (before .before) (After-clear·gave before))) → Typed.Mo T16
-      m12 = λ before given. s12 .next (m11 (before .before) (After-clear·gave before)) given
+      abbrev m11 : (c : After-clear) → Typed.Mo T14
+      m11 c = s10 (m10 c)
 
-      module _ (before· : After-clear) where
-        pub record After-t·own : Type 0 where
-          pub given : s12 .gives (m11 (before· .before) (After-clear·gave before·))
+      pub record After-t·own (c : After-clear) : Type 0 where
+        pub given : s12 .gives (m11 c)
 
       pub record After-t : Type 0 where
         pub before : After-clear
         pub t : After-t·own before
 
-      abbrev pub Need-add-i : Type 0
-      Need-add-i = (c : After-t) → s14 .asks (m12 (c .before) (c .t .given))
+      abbrev m12 : (c : After-t) → Typed.Mo T2
+      m12 c = s12 .next (m11 (c .before)) (c .t .given)
 
-      abbrev pub m13 : (before : After-clear) → (given : s12 .gives (m11 (before .before) (After-clear·gave before))) → Typed.Mo T18
-      m13 = λ before given. s14 .next (m12 before given)
+      abbrev m13 : (c : After-t) → Typed.Mo T2
+      m13 c = s14 .next (m12 c)
+
+      abbrev pub Need-add-i : Type 0
+      Need-add-i = (c : After-t) → s14 .asks (m12 c)
 
       abbrev pub Need-loop-less : Type 0
-      Need-loop-less = (c : After-t) → Nat._<_ (μ·0 (Row.get 1 (T2 .locals) (m1 (c .before .before .before .before .before .κs) (c .before .before .before .before .before .args)) .now)
-          (Row.get 2 (T2 .locals) (m1 (c .before .before .before .before .before .κs) (c .before .before .before .before .before .args))) (Row.get 1 (T2 .locals) (m13 (c .before) (c .t
-          .given)) .now) (Row.get 2 (T2 .locals) (m13 (c .before) (c .t .given)))) (μ·0 (Row.get 1 (T2 .locals) (m1 (c .before .before .before .before .before .κs) (c .before .before
-          .before .before .before .args)) .now) (Row.get 2 (T2 .locals) (m1 (c .before .before .before .before .before .κs) (c .before .before .before .before .before .args))) (c .before
-          .before .before .before .loop .t) (c .before .before .before .before .loop .i))
+      Need-loop-less = (c : After-t) → Nat._<_ (μ·0 (Row.get 1 (T2 .locals) (m1 (c .before .before .before .before .before)) .now) (Row.get 2 (T2 .locals) (m1 (c .before .before .before
+          .before .before))) (Row.get 1 (T2 .locals) (m13 c) .now) (Row.get 2 (T2 .locals) (m13 c))) (μ·0 (Row.get 1 (T2 .locals) (m1 (c .before .before .before .before .before)) .now)
+          (Row.get 2 (T2 .locals) (m1 (c .before .before .before .before .before))) (c .before .before .before .before .loop .t) (c .before .before .before .before .loop .i))
 
       abbrev pub Need-loop-again : Type 0
-      Need-loop-again = (c : After-t) → Inv·0 (Row.get 1 (T2 .locals) (m1 (c .before .before .before .before .before .κs) (c .before .before .before .before .before .args)) .now) (Row.get 2
-          (T2 .locals) (m1 (c .before .before .before .before .before .κs) (c .before .before .before .before .before .args))) (Row.get 1 (T2 .locals) (m13 (c .before) (c .t .given)) .now)
-          (Row.get 2 (T2 .locals) (m13 (c .before) (c .t .given)))
+      Need-loop-again = (c : After-t) → Inv·0 (Row.get 1 (T2 .locals) (m1 (c .before .before .before .before .before)) .now) (Row.get 2 (T2 .locals) (m1 (c .before .before .before .before
+          .before))) (Row.get 1 (T2 .locals) (m13 c) .now) (Row.get 2 (T2 .locals) (m13 c))
 
-      abbrev pub m14 : (before : At-loop) → Typed.Mo T19
-      m14 = λ before. s15 (m7 before)
-
-      abbrev pub m15 : (before : At-loop) → Typed.Mo T20
-      m15 = λ before. s16 (m14 before)
+      abbrev m15 : (c : At-loop) → Typed.Mo T1
+      m15 c = s16 (s15 (m6 c))
 
       abbrev pub Need-same-length : Type 0
-      Need-same-length = (c : After-loop) → MutSlice.SameLen (Row.get 1 (T20 .locals) (m15 (c .before))) (dens (c .before .before .κs) (c .before .before .args) .0)
+      Need-same-length = (c : After-loop) → MutSlice.SameLen (Row.get 1 (T1 .locals) (m15 (c .before))) (passed (c .before .before) .0)
 
       abbrev pub Need-returns : Type 0
-      Need-returns = (c : After-loop) → Post· (c .before .before .κs) (dens (c .before .before .κs) (c .before .before .args)) (Function.resV r (c .before .before .κs) (m15 (c .before) .0))
-          (Clauses.atExit (Kinds.endedOf 1 ps r) (c .before .before .κs) (dens (c .before .before .κs) (c .before .before .args)) (Enter.lastsP (c .before .before .κs) 1 ps xs (dens (c
-          .before .before .κs) (c .before .before .args)) (m15 (c .before) .1)))
+      Need-returns = (c : After-loop) → Owed (c .before .before) (m15 (c .before))
 
       module _ (loop-holds : Need-loop-holds) (clear-requires : Need-clear-requires) (add-i : Need-add-i) (loop-less : Need-loop-less) (loop-again : Need-loop-again) (same-length :
           Need-same-length) (returns : Need-returns) where
-        lay5 : (c : After-loop) → at22 (W0 (c .before .before .κs) (c .before .before .args)) (m7 (c .before))
-        lay5 = λ c. (
-          (
-            MutSlice.fix-len (Row.get 1 (T20 .locals) (m15 (c .before)) .ptr) (Row.get 1 (T20 .locals) (m15 (c .before)) .name) (Row.get 1 (T20 .locals) (m15 (c .before)) .now)
-                (dens (c .before .before .κs) (c .before .before .args) .0 .now) (same-length record { before = c .before; loop-test = c .loop-test }),
-            tt,
-          ),
-          returns record {
-            before = c .before;
-            loop-test = c .loop-test;
-          },
-        )
+        lay5 : (c : After-loop) → at22 (W0 (c .before .before)) (m6 (c .before))
+        lay5 c = ((MutSlice.fix-len _ _ (Row.get 1 (T1 .locals) (m15 (c .before)) .now) (passed (c .before .before) .0 .now) (same-length c), tt), returns c)
 
-        lay4 : (c : After-clear) → at10 (W3 (c .before .before .before .before) (c .before .before .before .loop .t) (c .before .before .before .loop .i)) (m10 (c .before) (After-clear·gave
-            c))
-        lay4 = λ c. (
-          refl,
-          λ g. (
-            add-i record { before = record { before = c .before; clear = c .clear }; t = record { given = g } },
-            (
-              μ·0 (Row.get 1 (T2 .locals) (m1 (c .before .before
-                  .before .before .κs) (c .before .before .before .before .args)) .now) (Row.get 2 (T2 .locals) (m1 (c .before .before .before .before .κs) (c .before .before .before .before
-                  .args))) (Row.get 1 (T2 .locals) (m13 record { before = c .before; clear = c .clear } g) .now) (Row.get 2 (T2 .locals) (m13 record { before = c .before; clear = c .clear } g)),
-              loop-less record { before = record { before = c .before; clear = c .clear }; t = record { given = g } },
-              (
-                (
-                  Row.get 1 (T2 .locals) (m13 record {
-                    before = c .before;
-                    clear = c
-                        .clear;
-                  } g) .now,
-                  Row.get 2 (T2 .locals) (m13 record { before = c .before; clear = c .clear } g),
-                ),
-                refl {a = m13 record { before = c .before; clear = c .clear } g},
-                loop-again
-                    record { before = record { before = c .before; clear = c .clear }; t = record { given = g } },
-                refl {a = μ·0 (Row.get 1 (T2 .locals) (m1 (c .before .before .before .before .κs)
-                    (c .before .before .before .before .args)) .now) (Row.get 2 (T2 .locals) (m1 (c .before .before .before .before .κs) (c .before .before .before .before .args))) (Row.get 1 (T2
-                    .locals) (m13 record { before = c .before; clear = c .clear } g) .now) (Row.get 2 (T2 .locals) (m13 record { before = c .before; clear = c .clear } g))},
-              ),
-            ),
-          ),
-        )
+        lay4 : (c : After-clear) → at10 (W3 (c .before .before .before .before) (c .before .before .before .loop .t) (c .before .before .before .loop .i)) (m10 c)
+        lay4 c =
+            (refl, λ g. let c1 : After-t = record { before = c; t = record { given = g } } in (add-i c1, (μ·0 (Row.get 1 (T2 .locals) (m1 (c .before .before .before .before)) .now) (Row.get 2 (T2 .locals) (m1 (c .before .before .before .before))) (Row.get 1 (T2 .locals) (m13 c1) .now) (Row.get 2 (T2 .locals) (m13 c1)), loop-less c1, ((Row.get 1 (T2 .locals) (m13 c1) .now, Row.get 2 (T2 .locals) (m13 c1)), refl {a = m13 c1}, loop-again c1, refl {a = μ·0 (Row.get 1 (T2 .locals) (m1 (c .before .before .before .before)) .now) (Row.get 2 (T2 .locals) (m1 (c .before .before .before .before))) (Row.get 1 (T2 .locals) (m13 c1) .now) (Row.get 2 (T2 .locals) (m13 c1))}))))
 
         lay3 : (c : In-loop) → at14 (W3 (c .before .before) (c .before .loop .t) (c .before .loop .i)) (m6 (c .before))
-        lay3 = λ c. λ g. (
-          refl,
-          (
-            clear-requires record { before = record { before = c .before; loop-test = c .loop-test }; clear-arg = record { given = g } },
-            λ g'. lay4 record {
-              before =
-                  record { before = record { before = c .before; loop-test = c .loop-test }; clear-arg = record { given = g } };
-              clear = Called.called ps·0 r·0 (claims· .1) T12 (
-                record {
-                  pos =
-                      7;
-                  ty = Y.tyRef Y.erased Y.mut S.named;
-                  ref = λ x. x;
-                },
-                (Num.vAt 2 λ x. x, tt),
-              ) (m9 record { before = c .before; loop-test = c .loop-test } g) g';
-            },
-          ),
-        )
+        lay3 c = λ g. let c1 : After-clear-arg = record { before = c; clear-arg = record { given = g } } in
+            (refl, (clear-requires c1, λ g'. lay4 (record { before = c1; clear = Called.called _ _ _ _ _ _ g' })))
 
         lay2 : (c : After-loop) → at3 (W4 (c .before .before) (c .before .loop .t) (c .before .loop .i)) (m5 (c .before .before) (c .before .loop .t) (c .before .loop .i))
-        lay2 = λ c. lay5 record { before = c .before; loop-test = c .loop-test }
+        lay2 c = lay5 c
 
         lay1 : (c : In-loop) → at1 (W4 (c .before .before) (c .before .loop .t) (c .before .loop .i)) (m5 (c .before .before) (c .before .loop .t) (c .before .loop .i))
-        lay1 = λ c. lay3 record { before = c .before; loop-test = c .loop-test }
+        lay1 c = lay3 c
 
-        pub laid : (c : Start) → at24 (W0 (c .κs) (c .args)) (m0 (c .κs) (c .args))
-        laid = λ c. (
-          ((Row.get 1 (T2 .locals) (m1 (c .κs) (c .args)) .now, Row.get 2 (T2 .locals) (m1 (c .κs) (c .args))), refl {a = m1 (c .κs) (c .args)}, loop-holds c),
-          λ vs inv. (
-            tt,
-            (
-              λ
-                  taken. lay1 record {
-                    before = record { before = c; loop = record { t = vs .0; i = vs .1; inv = inv } };
-                    loop-test = record {
-                      taken = Tests.ltb-true (Row.get 2 (T4 .locals) (m3
-                          c (vs .0) (vs .1))) (Row.get 3 (T4 .locals) (m3 c (vs .0) (vs .1))) taken;
-                    };
-                  },
-              λ left. lay2 record {
-                before = record {
-                  before = c;
-                  loop = record {
-                    t = vs .0;
-                    i = vs .1;
-                    inv =
-                        inv;
-                  };
-                };
-                loop-test = record { left = Tests.ltb-false (Row.get 2 (T4 .locals) (m3 c (vs .0) (vs .1))) (Row.get 3 (T4 .locals) (m3 c (vs .0) (vs .1))) left };
-              },
-            ),
-          ),
-        )
+        pub laid : (c : Start) → at24 (W0 c) (m0 c)
+        laid c =
+            (((Row.get 1 (T2 .locals) (m1 c) .now, Row.get 2 (T2 .locals) (m1 c)), refl {a = m1 c}, loop-holds c), λ vs inv. let c1 : At-loop = record { before = c; loop = record { t = vs .0; i = vs .1; inv = inv } } in (tt, (λ taken. lay1 (record { before = c1; loop-test = record { taken = Tests.ltb-true _ _ taken } }), λ left. lay2 (record { before = c1; loop-test = record { left = Tests.ltb-false _ _ left } }))))
 
-        module _ (κs : Lifetimes.Lfts 1) (qs : Lifetimes.Shares 1) where
-          pub asked : (a : Kinds.Dens κs ps) → (good : Kinds.GoodsP κs ps a) → (pre : Pre· κs a) → (bs : List.List Nat.ℕ) → Φ (Any.wantQ 1 ps r xs m κs qs a (Post· κs a)) (Function.init 1
-              ps r xs m κs qs a)
-          asked = λ a good pre bs. laid record { κs = κs; args = record { t = a .0 }; good = good; pre = pre }
+        pub asked : (κs : Lifetimes.Lfts 1) → (qs : Lifetimes.Shares 1) → (a : Kinds.Dens κs ps) → (good : Kinds.GoodsP κs ps a) → (pre : Pre· κs a) → (bs : List.List Nat.ℕ) → Φ (Any.wantQ 1
+            ps r xs m κs qs a (Post· κs a)) (Function.init 1 ps r xs m κs qs a)
+        asked κs qs a good pre bs = laid record { κs = κs; args = record { t = a .0 }; good = good; pre = pre }
 
-        module _ {M : Type 1} (𝓤 : URA.URA M) (H : Wp.Heap 𝓤) (A : Atoms.Atoms 𝓤) (W : Kit.Given 𝓤 H A) (𝓣 : Wp.Tables 𝓤 H) (known0 : Plain.Known 𝓤 H A W 𝓣 1 ps·0 r·0 (claims· .0) (claims·
-            .1) "samples::clear") where
-          pub spec : Statement.Triple 𝓤 (Wp.WpFn 𝓤 H (𝓣 .C) (𝓣 .Λ) (Function.fnOf 1 ps r xs m hs body)) (Function.plainOf 𝓤 H A 1 ps r Pre· Post·)
-          spec = Plain.t-fn-plain 𝓤 H A W 𝓣 1 ps r xs m hs body (λ κs qs bs. Φ) (λ κs qs bs bd. typed κs qs 𝓤 H A W 𝓣 known0 bs bd) Pre· Post· asked
+        pub spec : {M : Type 1} → Closed M
+        spec U H A W C known0 = Plain.t-fn-plain U H A W C 1 ps r xs m hs body (λ κs qs bs. Φ) (λ κs qs bs bd. typed κs qs U H A W C known0 bs bd) Pre· Post· asked
