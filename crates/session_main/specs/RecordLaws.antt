@@ -18,12 +18,16 @@ use Rattle.replies.specs.declared.Session.{Session}
 use Rattle.replies.specs.Steps.{starting}
 use Rattle.session.specs.declared.Answered.{Answered}
 use Rattle.frames.specs.declared.Record.{Record}
-use Rattle.frames.specs.declared.Told.{Told}
 use Rattle.session_main.specs.declared.After.{After}
 
 -- no record came
 abbrev pub stoppedAt : Session → After
 stoppedAt s = record { session = s; go = false; told = 0 }
+
+-- what is told of a record that was answered: the bytes handed to the output are the answer's, where the lent bytes hold them
+pub record Tells (a : Answered) (line : List ℕ) (r : After) : Type 0 where
+  pub session : r .session ≡ a .session
+  pub bytes : a .size ≤ length line → r .told ≡ a .size
 
 -- what a turn of the program leaves: no whole record came, and all is as found; or one came, as many bytes as its two length bytes say, and was answered:
 -- as many of the lent bytes as were handed to the output are its printout
@@ -40,16 +44,16 @@ pub turn-stopped : (s : Session) (ws : List ℕ) (t : List Sample) (two rec ps i
     → (st : Option Model) → Stands st s ws t → Turned st s ws t two rec ps is was r ws t ps is was
 turn-stopped s ws t two rec ps is was r e st l = ended e refl refl refl refl refl
 
-pub turn-answered : (s : Session) (ws after : List ℕ) (t then : List Sample) (two rec ps is was qs js line : List ℕ) (came : Record) (r : Answered) (x : Told)
+pub turn-answered : (s : Session) (ws after : List ℕ) (t then : List Sample) (two rec ps is was qs js line : List ℕ) (came : Record) (a : Answered) (r : After)
     → (came .size ≤ length rec) × (came .size < 65536) → (came .piece .go ≡ true → came .size ≡ numberAt 2 two 0) → not (came .piece .go) ≡ false
-    → Responded (take (came .size) rec) s ws t ps is was r after then qs js line → (r .size ≤ length line → x .size ≡ r .size)
-    → (st : Option Model) → Stands st s ws t → Turned st s ws t two rec ps is was (record { session = r .session; go = x .go; told = x .size }) after then qs js line
-turn-answered s ws after t then two rec ps is was qs js line came r x h says goes f k st l =
+    → Responded (take (came .size) rec) s ws t ps is was a after then qs js line → Tells a line r
+    → (st : Option Model) → Stands st s ws t → Turned st s ws t two rec ps is was r after then qs js line
+turn-answered s ws after t then two rec ps is was qs js line came a r h says goes f k st l =
     let n : ℕ = came .size in
     let e : n ≡ numberAt 2 two 0 = says (not-false (came .piece .go) goes) in
-    let y : Responds (turn st (take n rec)) s ws t ps is was r after then qs js line = f .stood st (omega (arith, h .1, length-take n rec)) l in
-    let z : x .size ≡ r .size = k (omega (arith, y .lines .fits, y .lines .place, y .lines .long)) in
-    answered (rw (← e) (h .0)) (rw (← e, z) y)
+    let y : Responds (turn st (take n rec)) s ws t ps is was a after then qs js line = f .stood st (omega (arith, h .1, length-take n rec)) l in
+    let z : r .told ≡ a .size = k .bytes (omega (arith, y .lines .fits, y .lines .place, y .lines .long)) in
+    answered (rw (← e) (h .0)) (rw (← e, z, k .session) y)
 
 -- ---- the loop
 

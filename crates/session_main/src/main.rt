@@ -7,10 +7,12 @@ ghost use lib.ListN.{length};
 ghost use Rattle.sampleinfo.specs.Samples.{emptySample};
 ghost use Rattle.model.specs.Model.{Model};
 ghost use Rattle.session.specs.Stands.{Stands};
-ghost use Rattle.session_main.specs.RecordLaws.{stoppedAt, Turned};
+ghost use Rattle.session_main.specs.RecordLaws.{stoppedAt, Tells, Turned};
 use frames::Piece;
+use frames::Record;
 use frames::Told;
 use replies::Session;
+use session::Answered;
 
 // ---- what a session does not print of an info, for the comparison with the Rust
 
@@ -97,18 +99,6 @@ fn tell_more(full: bool, told: Told, line: &[u8], infos: &[u64]) -> bool {
     tell_writers(infos, samples_told(line))
 }
 
-// The lines of a record. A failed write ends the session, and is told.
-fn tell_all(full: bool, line: &[u8], size: usize, infos: &[u64]) -> Told
-    ensures { λ r. ⌜ (size ≤ length (now (line .entry)) → r .size ≡ size) ⌝ }
-{
-    let told = frames::tell(line, size);
-    let go = tell_more(full, told, line, infos);
-    Told {
-        go: frames::checked(go, b"session_main: write"),
-        size: told.size,
-    }
-}
-
 // "A missing or wrong version byte or a cut-off record prints it and stops."
 fn cut_off() {
     let go = io::write_all(1, b"refused 1\n");
@@ -132,14 +122,28 @@ struct After {
     told: usize,
 }
 
-fn stopped(s: Session, piece: Piece) -> After
+fn stopped(s: Session, came: Record) -> After
     ensures { λ r. ⌜ r ≡ stoppedAt s ⌝ }
 {
-    over(piece);
+    over(came.piece);
     After {
         session: s,
         go: false,
         told: 0,
+    }
+}
+
+// The lines of a record that was answered. A failed write ends the session, and is told.
+fn tell_all(full: bool, a: Answered, line: &[u8], infos: &[u64]) -> After
+    ensures { λ r. ⌜ Tells a (now (line .entry)) r ⌝ }
+{
+    let told = frames::tell(line, a.size);
+    let go = tell_more(full, told, line, infos);
+    let after = a.session;
+    After {
+        session: after,
+        go: frames::checked(go, b"session_main: write"),
+        told: told.size,
     }
 }
 
@@ -157,19 +161,12 @@ fn one_record(
     ensures { λ r. ⌜ ((st : Option Model) → Stands st s (now (ws .entry)) (now (t .entry)) → Turned st s (now (ws .entry)) (now (t .entry)) (now (two .exit)) (now (rec .exit)) (now (pairs .entry)) (now (infos .entry)) (now (line .entry)) r (now (ws .exit)) (now (t .exit)) (now (pairs .exit)) (now (infos .exit)) (now (line .exit))) ⌝ }
 {
     let came = frames::next_record(two, rec);
-    let piece = came.piece;
-    if !piece.go {
-        return stopped(s, piece);
+    if !came.piece.go {
+        return stopped(s, came);
     }
     let n = came.size;
     let r = session::respond(s, ws, t, &rec[..n], pairs, infos, line);
-    let after = r.session;
-    let told = tell_all(full, line, r.size, infos);
-    After {
-        session: after,
-        go: told.go,
-        told: told.size,
-    }
+    tell_all(full, r, line, infos)
 }
 
 fn empty_record() -> sampleinfo::Sample
@@ -223,18 +220,53 @@ fn usage() {
     io::write_all(2, b"usage: session_main [--full]\n");
 }
 
-fn main() {
+// ---- the session
+
+// How many records the session may have, and whether it also tells the writers.
+struct Begun {
+    turns: u64,
+    full: bool,
+}
+
+fn not_begun() -> Begun {
+    Begun {
+        turns: 0,
+        full: false,
+    }
+}
+
+fn begin() -> Begun {
     let ask = arguments();
     if !ask.known {
         usage();
-        return;
+        return not_begun();
     }
     let mut one = [0u8; 1];
     let version = frames::next_version(&mut one);
     if !version.go {
         over(version);
-        return;
+        return not_begun();
     }
+    Begun {
+        turns: u64::MAX,
+        full: ask.full,
+    }
+}
+
+// How many records the session may still have after one.
+fn turns_after(turns: u64, go: bool) -> u64
+    requires { ⌜ 0 < turns ⌝ }
+    ensures { λ r. ⌜ r < turns ⌝ }
+{
+    if !go {
+        return 0;
+    }
+    turns - 1
+}
+
+// Its only way out is the end of its loop: with three more its machine-made derivation was a third longer.
+fn main() {
+    let begun = begin();
     let empty = empty_record();
     let mut t = [empty; 256];
     let mut ws = [0u64; 928];
@@ -244,7 +276,7 @@ fn main() {
     let mut infos = [0u64; 6912];
     let mut line = [0u8; 66048];
     let mut s = session::start();
-    let mut turns = u64::MAX;
+    let mut turns = begun.turns;
     while turns > 0 {
         let r = one_record(
             s,
@@ -255,12 +287,9 @@ fn main() {
             &mut pairs,
             &mut infos,
             &mut line,
-            ask.full,
+            begun.full,
         );
         s = r.session;
-        if !r.go {
-            return;
-        }
-        turns -= 1;
+        turns = turns_after(turns, r.go);
     }
 }

@@ -4,8 +4,6 @@ use Rattle.frames.proofs.Piece
 use Rattle.frames.proofs.Piece.Laws as Piece′
 use Rattle.frames.proofs.Record
 use Rattle.frames.proofs.Record.Laws as Record′
-use Rattle.frames.proofs.Told
-use Rattle.frames.proofs.Told.Laws as Told′
 use Rattle.replies.proofs.Session
 use Rattle.replies.proofs.Session.Laws as Session′
 use Rattle.sampleinfo.proofs.Short as L
@@ -24,11 +22,8 @@ use borrow.Fn.Kinds
 use borrow.Fn.Plain
 use borrow.Kind.Bool
 use borrow.Kind.MutSlice
-use borrow.Kind.Num
 use borrow.Kind.ShrSlice
 use borrow.Rule.Array.AsSlice
-use borrow.Rule.AtSlots
-use borrow.Rule.DerefMove
 use borrow.Rule.Frozen
 use borrow.Rule.LendAt
 use borrow.Rule.Lifetime
@@ -41,20 +36,11 @@ use borrow.Rule.Slice.Relend
 use borrow.Rule.Slice.Reshare
 use borrow.Rule.Slice.Shared
 use borrow.Rule.Token.Open
-use borrow.Rule.Way
 use borrow.Rule.WayLend
-use borrow.Rule.WayStmt
 use borrow.Rule.Yields
-use borrow.Struct.Apart
-use borrow.Struct.Behind
-use borrow.Struct.Inner
 use borrow.Struct.Know as Know'
-use borrow.Struct.Make
 use borrow.Struct.Reads
-use borrow.Struct.Signed
-use borrow.Struct.Way as Way'
 use borrow.Table.Copies
-use borrow.Table.Own
 use borrow.Table.Reads as Reads'
 use borrow.Table.Referent
 use borrow.Table.Row
@@ -62,11 +48,7 @@ use borrow.Table.Rows
 use borrow.Table.Typed
 use contract.Lifetimes
 use denote.Array
-use denote.Laws as Laws'6
-use denote.Struct.At
 use denote.Struct.Declared
-use denote.Struct.Field
-use denote.Struct.Laws as Laws'7
 use denote.Triple.Clauses
 use denote.Triple.Statement
 use ghost.Atoms
@@ -218,91 +200,88 @@ abbrev r22 : Row.Row
 r22 = Rows.any-gone y7
 
 abbrev r23 : Row.Row
-r23 = Mut.mslice L.u8 y11 2
+r23 = Rows.any-gone y8
 
 abbrev r24 : Row.Row
-r24 = Mut.mslice L.u8 y12 3
+r24 = Rows.sslice L.u64 y13 16
 
 abbrev r25 : Row.Row
-r25 = Rows.any-gone y10
+r25 = Mut.mslice L.u8 y11 2
 
 abbrev r26 : Row.Row
-r26 = Rows.any-gone y9
+r26 = Mut.mslice L.u8 y12 3
 
 abbrev r27 : Row.Row
-r27 = Rows.sslice L.u8 y15 11
+r27 = Rows.any-gone y10
 
 abbrev r28 : Row.Row
-r28 = Rows.sslice L.u8 y15 15
+r28 = Rows.any-gone y9
 
 abbrev r29 : Row.Row
-r29 = Mut.mslice L.u8 y14 7
+r29 = Relend.msptr L.u8 y14 7
 
 abbrev r30 : Row.Row
-r30 = Mut.msleft L.u8 y14
+r30 = Relend.msptr L.u8 y14 8
 
 abbrev r31 : Row.Row
-r31 = Rows.whole (Declared.row (Apart.apartT After.the-type))
+r31 = Rows.sslice L.u8 y15 11
 
 abbrev r32 : Row.Row
-r32 = Mut.mslice S.row y16 1
+r32 = Rows.sslice L.u8 y15 15
 
 abbrev r33 : Row.Row
-r33 = Rows.any-gone y13
+r33 = Mut.mslice L.u8 y14 7
 
 abbrev r34 : Row.Row
-r34 = Rows.any-gone y14
+r34 = Mut.msleft L.u8 y14
 
 abbrev r35 : Row.Row
-r35 = Rows.any-gone (L.sl y17)
+r35 = Mut.mslice S.row y16 1
 
 abbrev r36 : Row.Row
-r36 = Rows.any-gone y15
+r36 = Rows.any-gone y13
 
 abbrev r37 : Row.Row
-r37 = Mut.mslice S.row y17 10
+r37 = Rows.any-gone y14
 
 abbrev r38 : Row.Row
-r38 = Mut.msleft S.row y17
+r38 = Rows.any-gone (L.sl y17)
 
 abbrev r39 : Row.Row
-r39 = Rows.any-gone y17
+r39 = Rows.any-gone y15
 
 abbrev r40 : Row.Row
-r40 = Rows.whole (Declared.row Answered.the-type)
+r40 = Mut.mslice S.row y17 10
 
 abbrev r41 : Row.Row
-r41 = Rows.whole (Declared.row Session.the-type)
+r41 = Mut.msleft S.row y17
 
 abbrev r42 : Row.Row
-r42 = Rows.whole (Declared.row Record.the-type)
+r42 = Rows.any-gone y17
 
 abbrev r43 : Row.Row
-r43 = Rows.whole (Declared.row After.the-type)
+r43 = Rows.whole (Declared.row Answered.the-type)
 
 abbrev r44 : Row.Row
-r44 = Rows.whole (Declared.row Piece.the-type)
+r44 = Rows.whole (Declared.row Session.the-type)
 
 abbrev r45 : Row.Row
-r45 = Rows.whole (Declared.row Told.the-type)
+r45 = Rows.whole (Declared.row Record.the-type)
 
 abbrev r46 : Row.Row
-r46 = Rows.any-gone Answered′.mir
+r46 = Rows.whole (Declared.row After.the-type)
 
 abbrev r47 : Row.Row
-r47 = Rows.any-gone Session′.mir
+r47 = Rows.any-gone Answered′.mir
 
 abbrev r48 : Row.Row
-r48 = Rows.any-gone Record′.mir
+r48 = Rows.any-gone Session′.mir
 
 abbrev r49 : Row.Row
-r49 = Rows.any-gone After′.mir
+r49 = Rows.any-gone Record′.mir
 
 abbrev r50 : Row.Row
-r50 = Rows.any-gone Piece′.mir
-
-abbrev r51 : Row.Row
-r51 = Rows.any-gone Told′.mir
+r50 = Rows.any-gone After′.mir
 
 abbrev pub ps : List.List (Kinds.PK 7)
 ps = (L.p Session.the-type Session′.the-laws Session′.the-copy Session′.the-plain) ∷ Kinds.pMut (Array.Array L.u64 928) 0 tt ∷ MutSlice.pMutS S.row 1 tt ∷ MutSlice.pMutS L.u8 2 tt ∷
@@ -312,10 +291,10 @@ abbrev pub r : Kinds.RK 7
 r = L.r After.the-type After′.the-laws After′.the-copy After′.the-plain
 
 abbrev pub xs : List.List Y.Ty
-xs = Record′.mir ∷ Piece′.mir ∷ Y.tyInt Y.w64 ∷ Answered′.mir ∷ Session′.mir ∷ Told′.mir ∷ y14 ∷ Y.tyStruct (38 ∷ 91 ∷ 93 ∷ []) (Y.tcons y14 (Y.tcons (Y.tyInt Y.w64) Y.tnil)) ∷ y14 ∷
-    Y.tyStruct (38 ∷ 91 ∷ 93 ∷ []) (Y.tcons y14 (Y.tcons (Y.tyInt Y.w64) Y.tnil)) ∷ Y.tyBool ∷ y6 ∷ y17 ∷ Y.tyStruct (38 ∷ 91 ∷ 93 ∷ []) (Y.tcons y17 (Y.tcons (Y.tyInt Y.w64) Y.tnil)) ∷ y15
-    ∷ Y.tyStruct (38 ∷ 91 ∷ 93 ∷ []) (Y.tcons y15 (Y.tcons (Y.tyInt Y.w64) Y.tnil)) ∷ y7 ∷ y5 ∷ y4 ∷ y15 ∷ Y.tyStruct (38 ∷ 91 ∷ 93 ∷ []) (Y.tcons y15 (Y.tcons (Y.tyInt Y.w64) Y.tnil)) ∷ y13
-    ∷ Y.tyStruct (38 ∷ 91 ∷ 93 ∷ []) (Y.tcons y13 (Y.tcons (Y.tyInt Y.w64) Y.tnil)) ∷ []
+xs = Record′.mir ∷ Y.tyInt Y.w64 ∷ Answered′.mir ∷ y14 ∷ Y.tyStruct (38 ∷ 91 ∷ 93 ∷ []) (Y.tcons y14 (Y.tcons (Y.tyInt Y.w64) Y.tnil)) ∷ y14 ∷ Y.tyStruct (38 ∷ 91 ∷ 93 ∷ []) (Y.tcons y14
+    (Y.tcons (Y.tyInt Y.w64) Y.tnil)) ∷ Y.tyBool ∷ y6 ∷ y17 ∷ Y.tyStruct (38 ∷ 91 ∷ 93 ∷ []) (Y.tcons y17 (Y.tcons (Y.tyInt Y.w64) Y.tnil)) ∷ y15 ∷ Y.tyStruct (38 ∷ 91 ∷ 93 ∷ []) (Y.tcons
+    y15 (Y.tcons (Y.tyInt Y.w64) Y.tnil)) ∷ y7 ∷ y5 ∷ y4 ∷ y15 ∷ Y.tyStruct (38 ∷ 91 ∷ 93 ∷ []) (Y.tcons y15 (Y.tcons (Y.tyInt Y.w64) Y.tnil)) ∷ y13 ∷ Y.tyStruct (38 ∷ 91 ∷ 93 ∷ []) (Y.tcons
+    y13 (Y.tcons (Y.tyInt Y.w64) Y.tnil)) ∷ []
 
 abbrev pub m : Nat.ℕ
 m = 10
@@ -327,7 +306,7 @@ abbrev r·0 : Kinds.RK 2
 r·0 = L.r Record.the-type Record′.the-laws Record′.the-copy Record′.the-plain
 
 abbrev ps·1 : List.List (Kinds.PK 0)
-ps·1 = (L.p Session.the-type Session′.the-laws Session′.the-copy Session′.the-plain) ∷ (L.p Piece.the-type Piece′.the-laws Piece′.the-copy Piece′.the-plain) ∷ []
+ps·1 = (L.p Session.the-type Session′.the-laws Session′.the-copy Session′.the-plain) ∷ (L.p Record.the-type Record′.the-laws Record′.the-copy Record′.the-plain) ∷ []
 
 abbrev r·1 : Kinds.RK 0
 r·1 = L.r After.the-type After′.the-laws After′.the-copy After′.the-plain
@@ -340,99 +319,81 @@ abbrev r·2 : Kinds.RK 6
 r·2 = L.r Answered.the-type Answered′.the-laws Answered′.the-copy Answered′.the-plain
 
 abbrev ps·3 : List.List (Kinds.PK 2)
-ps·3 = Bool.pBool ∷ ShrSlice.pShrS L.u8 0 tt ∷ Num.pNum Y.w64 ∷ ShrSlice.pShrS L.u64 1 tt ∷ []
+ps·3 = Bool.pBool ∷ (L.p Answered.the-type Answered′.the-laws Answered′.the-copy Answered′.the-plain) ∷ ShrSlice.pShrS L.u8 0 tt ∷ ShrSlice.pShrS L.u64 1 tt ∷ []
 
 abbrev r·3 : Kinds.RK 2
-r·3 = L.r Told.the-type Told′.the-laws Told′.the-copy Told′.the-plain
+r·3 = L.r After.the-type After′.the-laws After′.the-copy After′.the-plain
 
 abbrev pub hs : List.List Y.Home
 hs = Y.valueLocal ∷ Y.valueLocal ∷ Y.valueLocal ∷ Y.valueLocal ∷ Y.valueLocal ∷ Y.valueLocal ∷ Y.valueLocal ∷ Y.valueLocal ∷ Y.valueLocal ∷ Y.valueLocal ∷ Y.valueLocal ∷ Y.valueLocal ∷
     Y.valueLocal ∷ Y.valueLocal ∷ Y.valueLocal ∷ Y.valueLocal ∷ Y.valueLocal ∷ Y.valueLocal ∷ Y.valueLocal ∷ Y.valueLocal ∷ Y.valueLocal ∷ Y.valueLocal ∷ Y.valueLocal ∷ Y.valueLocal ∷
-    Y.valueLocal ∷ Y.valueLocal ∷ Y.valueLocal ∷ Y.valueLocal ∷ Y.valueLocal ∷ Y.valueLocal ∷ Y.valueLocal ∷ Y.valueLocal ∷ Y.valueLocal ∷ []
+    Y.valueLocal ∷ Y.valueLocal ∷ Y.valueLocal ∷ Y.valueLocal ∷ Y.valueLocal ∷ Y.valueLocal ∷ []
+
+abbrev b7 : Y.Body
+b7 = Y.return
 
 abbrev b8 : Y.Body
-b8 = Y.return
+b8 = Y.seq (Y.call "session_main::stopped" (Y.copy (Y.place 1 []) ∷ Y.copy (Y.place 10 []) ∷ []) (Y.place 0 [])) b7
 
 abbrev b9 : Y.Body
-b9 = Y.seq (Y.call "session_main::stopped" (Y.copy (Y.place 1 []) ∷ Y.copy (Y.place 11 []) ∷ []) (Y.place 0 [])) b8
+b9 = Y.skip
 
 abbrev b10 : Y.Body
-b10 = Y.skip
+b10 = Y.cond (Y.copy (Y.place 17 [])) b8 b9
 
-abbrev b11 : Y.Body
-b11 = Y.cond (Y.copy (Y.place 20 [])) b9 b10
-
-abbrev b30 : Y.Body
-b30 = Y.seq (Y.assign (Y.place 0 []) (Y.aggregate (Y.copy (Y.place 14 []) ∷ Y.copy (Y.place 15 (Y.field 0 ∷ [])) ∷ Y.copy (Y.place 15 (Y.field 1 ∷ [])) ∷ []))) b8
-
-abbrev b35 : Y.Body
-b35 = Y.seq (Y.assign (Y.place 29 []) (Y.addrOf (Y.place 8 (Y.deref (Y.tyInt Y.w8) ∷ [])))) (Y.seq (Y.assign (Y.place 30 []) (Y.aggregate (Y.copy (Y.place 29 []) ∷ Y.intBig Y.w64 66048 ∷
-    []))) (Y.seq (Y.assign (Y.place 31 []) (Y.addrOf (Y.place 7 (Y.deref (Y.tyInt Y.w64) ∷ [])))) (Y.seq (Y.assign (Y.place 32 []) (Y.aggregate (Y.copy (Y.place 31 []) ∷ Y.intBig Y.w64 6912
-    ∷ []))) (Y.seq (Y.call "session_main::tell_all" (Y.copy (Y.place 9 []) ∷ Y.copy (Y.place 30 []) ∷ Y.copy (Y.place 13 (Y.field 1 ∷ [])) ∷ Y.copy (Y.place 32 []) ∷ []) (Y.place 15 []))
-    b30))))
+abbrev b31 : Y.Body
+b31 = Y.seq (Y.assign (Y.place 26 []) (Y.addrOf (Y.place 8 (Y.deref (Y.tyInt Y.w8) ∷ [])))) (Y.seq (Y.assign (Y.place 27 []) (Y.aggregate (Y.copy (Y.place 26 []) ∷ Y.intBig Y.w64 66048 ∷
+    []))) (Y.seq (Y.assign (Y.place 28 []) (Y.addrOf (Y.place 7 (Y.deref (Y.tyInt Y.w64) ∷ [])))) (Y.seq (Y.assign (Y.place 29 []) (Y.aggregate (Y.copy (Y.place 28 []) ∷ Y.intBig Y.w64 6912
+    ∷ []))) (Y.seq (Y.call "session_main::tell_all" (Y.copy (Y.place 9 []) ∷ Y.copy (Y.place 12 []) ∷ Y.copy (Y.place 27 []) ∷ Y.copy (Y.place 29 []) ∷ []) (Y.place 0 [])) b7))))
 
 abbrev b36 : Y.Body
-b36 = Y.seq (Y.assign (Y.place 14 []) (Y.rvOpd (Y.copy (Y.place 13 (Y.field 0 ∷ []))))) b35
+b36 = Y.seq (Y.assign (Y.place 22 []) (Y.aggregate (Y.copy (Y.place 21 []) ∷ Y.copy (Y.place 11 []) ∷ []))) (Y.seq (Y.assign (Y.place 23 []) (Y.addrOf (Y.place 6 (Y.deref y21 ∷ [])))) (Y.seq
+    (Y.assign (Y.place 24 []) (Y.addrOf (Y.place 7 (Y.deref y18 ∷ [])))) (Y.seq (Y.assign (Y.place 25 []) (Y.addrOf (Y.place 8 (Y.deref y19 ∷ [])))) (Y.seq (Y.call "session::respond" (Y.copy
+    (Y.place 1 []) ∷ Y.copy (Y.place 18 []) ∷ Y.copy (Y.place 20 []) ∷ Y.copy (Y.place 22 []) ∷ Y.copy (Y.place 23 []) ∷ Y.copy (Y.place 24 []) ∷ Y.copy (Y.place 25 []) ∷ []) (Y.place 12
+    [])) b31))))
+
+abbrev b40 : Y.Body
+b40 = Y.seq (Y.assign (Y.place 18 []) (Y.addrOf (Y.place 2 (Y.deref y20 ∷ [])))) (Y.seq (Y.assign (Y.place 19 []) (Y.addrOf (Y.place 3 (Y.field 0 ∷ Y.deref S.ty ∷ [])))) (Y.seq (Y.assign
+    (Y.place 20 []) (Y.aggregate (Y.copy (Y.place 19 []) ∷ Y.copy (Y.place 3 (Y.field 1 ∷ [])) ∷ []))) (Y.seq (Y.assign (Y.place 21 []) (Y.addrOf (Y.place 5 (Y.field 0 ∷ Y.deref (Y.tyInt
+    Y.w8) ∷ [])))) b36)))
 
 abbrev b41 : Y.Body
-b41 = Y.seq (Y.assign (Y.place 25 []) (Y.aggregate (Y.copy (Y.place 24 []) ∷ Y.copy (Y.place 12 []) ∷ []))) (Y.seq (Y.assign (Y.place 26 []) (Y.addrOf (Y.place 6 (Y.deref y21 ∷ [])))) (Y.seq
-    (Y.assign (Y.place 27 []) (Y.addrOf (Y.place 7 (Y.deref y18 ∷ [])))) (Y.seq (Y.assign (Y.place 28 []) (Y.addrOf (Y.place 8 (Y.deref y19 ∷ [])))) (Y.seq (Y.call "session::respond" (Y.copy
-    (Y.place 1 []) ∷ Y.copy (Y.place 21 []) ∷ Y.copy (Y.place 23 []) ∷ Y.copy (Y.place 25 []) ∷ Y.copy (Y.place 26 []) ∷ Y.copy (Y.place 27 []) ∷ Y.copy (Y.place 28 []) ∷ []) (Y.place 13
-    [])) b36))))
+b41 = Y.seq (Y.assign (Y.place 11 []) (Y.rvOpd (Y.copy (Y.place 10 (Y.field 1 ∷ []))))) b40
 
-abbrev b45 : Y.Body
-b45 = Y.seq (Y.assign (Y.place 21 []) (Y.addrOf (Y.place 2 (Y.deref y20 ∷ [])))) (Y.seq (Y.assign (Y.place 22 []) (Y.addrOf (Y.place 3 (Y.field 0 ∷ Y.deref S.ty ∷ [])))) (Y.seq (Y.assign
-    (Y.place 23 []) (Y.aggregate (Y.copy (Y.place 22 []) ∷ Y.copy (Y.place 3 (Y.field 1 ∷ [])) ∷ []))) (Y.seq (Y.assign (Y.place 24 []) (Y.addrOf (Y.place 5 (Y.field 0 ∷ Y.deref (Y.tyInt
-    Y.w8) ∷ [])))) b41)))
+abbrev b43 : Y.Body
+b43 = Y.seq (Y.assign (Y.place 17 []) (Y.op1 Y.bitNot (Y.copy (Y.place 10 (Y.field 0 ∷ Y.field 0 ∷ []))))) (Y.seq b10 b41)
 
-abbrev b46 : Y.Body
-b46 = Y.seq (Y.assign (Y.place 12 []) (Y.rvOpd (Y.copy (Y.place 10 (Y.field 1 ∷ []))))) b45
-
-abbrev b49 : Y.Body
-b49 = Y.seq (Y.assign (Y.place 11 []) (Y.rvOpd (Y.copy (Y.place 10 (Y.field 0 ∷ []))))) (Y.seq (Y.assign (Y.place 20 []) (Y.op1 Y.bitNot (Y.copy (Y.place 11 (Y.field 0 ∷ []))))) (Y.seq b11
-    b46))
-
-abbrev b54 : Y.Body
-b54 = Y.seq (Y.assign (Y.place 16 []) (Y.addrOf (Y.place 4 (Y.field 0 ∷ Y.deref (Y.tyInt Y.w8) ∷ [])))) (Y.seq (Y.assign (Y.place 17 []) (Y.aggregate (Y.copy (Y.place 16 []) ∷ Y.copy
-    (Y.place 4 (Y.field 1 ∷ [])) ∷ []))) (Y.seq (Y.assign (Y.place 18 []) (Y.addrOf (Y.place 5 (Y.field 0 ∷ Y.deref (Y.tyInt Y.w8) ∷ [])))) (Y.seq (Y.assign (Y.place 19 []) (Y.aggregate
-    (Y.copy (Y.place 18 []) ∷ Y.copy (Y.place 5 (Y.field 1 ∷ [])) ∷ []))) (Y.seq (Y.call "frames::next_record" (Y.copy (Y.place 17 []) ∷ Y.copy (Y.place 19 []) ∷ []) (Y.place 10 [])) b49))))
+abbrev b48 : Y.Body
+b48 = Y.seq (Y.assign (Y.place 13 []) (Y.addrOf (Y.place 4 (Y.field 0 ∷ Y.deref (Y.tyInt Y.w8) ∷ [])))) (Y.seq (Y.assign (Y.place 14 []) (Y.aggregate (Y.copy (Y.place 13 []) ∷ Y.copy
+    (Y.place 4 (Y.field 1 ∷ [])) ∷ []))) (Y.seq (Y.assign (Y.place 15 []) (Y.addrOf (Y.place 5 (Y.field 0 ∷ Y.deref (Y.tyInt Y.w8) ∷ [])))) (Y.seq (Y.assign (Y.place 16 []) (Y.aggregate
+    (Y.copy (Y.place 15 []) ∷ Y.copy (Y.place 5 (Y.field 1 ∷ [])) ∷ []))) (Y.seq (Y.call "frames::next_record" (Y.copy (Y.place 14 []) ∷ Y.copy (Y.place 16 []) ∷ []) (Y.place 10 [])) b43))))
 
 abbrev pub body : Y.Body
-body = b54
+body = b48
 
 abbrev pub Claims : Type 1
 Claims = Kinds.In 2 ps·0 × Kinds.Out 2 ps·0 r·0 × Kinds.In 0 ps·1 × Kinds.Out 0 ps·1 r·1 × Kinds.In 6 ps·2 × Kinds.Out 6 ps·2 r·2 × Kinds.In 2 ps·3 × Kinds.Out 2 ps·3 r·3
 
 abbrev t0 : List.List Row.Entry
-t0 = (0, r49) ∷ (1, r41) ∷ (2, r6) ∷ (3, r32) ∷ (4, r23) ∷ (5, r24) ∷ (6, r7) ∷ (7, r4) ∷ (8, r5) ∷ (9, L.hbool) ∷ (10, r48) ∷ (11, r50) ∷ (12, L.g64) ∷ (13, r46) ∷ (14, r47) ∷ (15, r51) ∷
+t0 = (0, r50) ∷ (1, r44) ∷ (2, r6) ∷ (3, r35) ∷ (4, r25) ∷ (5, r26) ∷ (6, r7) ∷ (7, r4) ∷ (8, r5) ∷ (9, L.hbool) ∷ (10, r49) ∷ (11, L.g64) ∷ (12, r47) ∷ (13, r37) ∷ (14, r27) ∷ (15, r37) ∷
     []
 
 abbrev t1 : List.List Row.Entry
-t1 = (16, r34) ∷ (17, r25) ∷ (18, r34) ∷ (19, r25) ∷ (20, L.gbool) ∷ (21, r21) ∷ (22, r39) ∷ (23, r35) ∷ (24, r36) ∷ (25, r26) ∷ (26, r22) ∷ (27, r19) ∷ (28, r20) ∷ (29, r36) ∷ (30, r26) ∷
-    (31, r33) ∷ []
+t1 = (16, r27) ∷ (17, L.gbool) ∷ (18, r21) ∷ (19, r42) ∷ (20, r38) ∷ (21, r39) ∷ (22, r28) ∷ (23, r22) ∷ (24, r19) ∷ (25, r20) ∷ (26, r39) ∷ (27, r28) ∷ (28, r36) ∷ (29, r23) ∷ []
 
-abbrev t2 : List.List Row.Entry
-t2 = (32, Rows.any-gone y8) ∷ []
-
-abbrev t13 : List.List Row.Entry
-t13 = (16, r34) ∷ (17, r25) ∷ (18, r34) ∷ (19, r30) ∷ (20, L.gbool) ∷ (21, r21) ∷ (22, r39) ∷ (23, r35) ∷ (24, r36) ∷ (25, r26) ∷ (26, r22) ∷ (27, r19) ∷ (28, r20) ∷ (29, r36) ∷ (30, r26) ∷
-    (31, r33) ∷ []
-
-abbrev t35 : List.List Row.Entry
-t35 = (0, r49) ∷ (1, r41) ∷ (2, r3) ∷ (3, r18) ∷ (4, r23) ∷ (5, r15) ∷ (6, r2) ∷ (7, r0) ∷ (8, r1) ∷ (9, L.hbool) ∷ (10, r48) ∷ (11, r50) ∷ (12, L.h64) ∷ (13, r46) ∷ (14, r47) ∷ (15, r51) ∷
+abbrev t30 : List.List Row.Entry
+t30 = (0, r50) ∷ (1, r44) ∷ (2, r3) ∷ (3, r18) ∷ (4, r25) ∷ (5, r15) ∷ (6, r2) ∷ (7, r0) ∷ (8, r1) ∷ (9, L.hbool) ∷ (10, r49) ∷ (11, L.h64) ∷ (12, r47) ∷ (13, r37) ∷ (14, r27) ∷ (15, r37) ∷
     []
 
-abbrev t36 : List.List Row.Entry
-t36 = (16, r34) ∷ (17, r25) ∷ (18, r34) ∷ (19, r25) ∷ (20, L.gbool) ∷ (21, r12) ∷ (22, r39) ∷ (23, r37) ∷ (24, r36) ∷ (25, r27) ∷ (26, r9) ∷ (27, r8) ∷
-    (28, Rows.mref (Array.Array L.u8 66048) y4 14) ∷ (29, r36) ∷ (30, r26) ∷ (31, r33) ∷ []
+abbrev t31 : List.List Row.Entry
+t31 = (16, r27) ∷ (17, L.gbool) ∷ (18, r12) ∷ (19, r42) ∷ (20, r40) ∷ (21, r39) ∷ (22, r31) ∷ (23, r9) ∷ (24, r8) ∷ (25, Rows.mref (Array.Array L.u8 66048) y4 14) ∷ (26, r39) ∷ (27, r28) ∷
+    (28, r36) ∷ (29, r23) ∷ []
 
-abbrev t42 : List.List Row.Entry
-t42 = (16, r34) ∷ (17, r25) ∷ (18, r34) ∷ (19, r25) ∷ (20, L.gbool) ∷ (21, r21) ∷ (22, r39) ∷ (23, r38) ∷ (24, r36) ∷ (25, r26) ∷ (26, r14) ∷ (27, r10) ∷ (28, r11) ∷ (29, r36) ∷ (30, r26) ∷
-    (31, r33) ∷ []
+abbrev t37 : List.List Row.Entry
+t37 = (16, r27) ∷ (17, L.gbool) ∷ (18, r21) ∷ (19, r42) ∷ (20, r41) ∷ (21, r39) ∷ (22, r28) ∷ (23, r14) ∷ (24, r10) ∷ (25, r11) ∷ (26, r39) ∷ (27, r28) ∷ (28, r36) ∷ (29, r23) ∷ []
 
-abbrev t55 : List.List Row.Entry
-t55 = (16, r34) ∷ (17, r25) ∷ (18, r34) ∷ (19, r25) ∷ (20, L.gbool) ∷ (21, r21) ∷ (22, r39) ∷ (23, r35) ∷ (24, r36) ∷ (25, r26) ∷ (26, r22) ∷ (27, r19) ∷ (28, r20) ∷ (29, r36) ∷ (30, r28) ∷
-    (31, r33) ∷ []
+abbrev t49 : List.List Row.Entry
+t49 = (16, r27) ∷ (17, L.gbool) ∷ (18, r21) ∷ (19, r42) ∷ (20, r38) ∷ (21, r39) ∷ (22, r28) ∷ (23, r22) ∷ (24, r19) ∷ (25, r20) ∷ (26, r39) ∷ (27, r32) ∷ (28, r36) ∷ (29, r23) ∷ []
 
 abbrev on : Nat.ℕ → Row.Row → Row.Cx → Row.Cx
 on n r Γ = record { locals = Row.setRow n (n, r) (Γ .locals); slots = Γ .slots }
@@ -444,167 +405,136 @@ abbrev lives : List.List Row.Life → Row.Cx → Row.Cx
 lives ls Γ = record { locals = Γ .locals; slots = ls }
 
 abbrev T0 : Row.Cx
-T0 = record { locals = List._++_ t0 (List._++_ t1 t2); slots = [] }
+T0 = record { locals = List._++_ t0 t1; slots = [] }
 
 abbrev T1 : Row.Cx
-T1 = on 9 L.gbool (on 1 r47 (on 0 r43 T0))
+T1 = on 9 L.gbool (on 1 r48 (on 0 r46 T0))
 
 abbrev T5 : Row.Cx
-T5 = on 16 (Relend.msptr L.u8 y14 7) (on 4 r16 T0)
+T5 = on 13 r29 (on 4 r16 T0)
 
 abbrev T6 : Row.Cx
-T6 = on 17 r29 (on 4 r16 T0)
+T6 = on 14 r33 (on 4 r16 T0)
 
 abbrev T8 : Row.Cx
-T8 = on 18 (Relend.msptr L.u8 y14 8) (on 5 r17 T6)
+T8 = on 15 r30 (on 5 r17 T6)
 
 abbrev T9 : Row.Cx
-T9 = on 19 (Mut.mslice L.u8 y14 8) (on 5 r17 T6)
+T9 = on 16 (Mut.mslice L.u8 y14 8) (on 5 r17 T6)
 
 abbrev T10 : Row.Cx
-T10 = on 19 r30 (on 17 r30 (on 10 r42 T9))
+T10 = on 16 r34 (on 14 r34 (on 10 r45 T9))
 
 abbrev T12 : Row.Cx
-T12 = on 17 r25 (on 4 r23 T10)
+T12 = on 14 r27 (on 4 r25 T10)
 
 abbrev T16 : Row.Cx
-T16 = on 10 r42 T0
+T16 = on 10 r45 T0
 
-abbrev T19 : Row.Cx
-T19 = on 11 r44 T16
-
-abbrev T21 : Row.Cx
-T21 = on 20 L.hbool T19
+abbrev T20 : Row.Cx
+T20 = on 17 L.hbool T16
 
 abbrev T23 : Row.Cx
-T23 = on 10 r48 T21
+T23 = on 0 r46 T16
 
 abbrev T24 : Row.Cx
-T24 = on 11 r44 T0
+T24 = on 1 r48 T23
 
 abbrev T25 : Row.Cx
-T25 = on 0 r43 T24
+T25 = on 10 r49 T24
 
-abbrev T26 : Row.Cx
-T26 = on 1 r47 T25
-
-abbrev T27 : Row.Cx
-T27 = on 11 r50 T26
+abbrev T28 : Row.Cx
+T28 = on 11 L.h64 T16
 
 abbrev T29 : Row.Cx
-T29 = on 11 r50 T21
+T29 = on 10 r49 T28
 
 abbrev T31 : Row.Cx
-T31 = on 12 L.h64 T16
+T31 = on 18 r12 (on 2 r3 T29)
 
-abbrev T32 : Row.Cx
-T32 = on 10 r48 T31
+abbrev T33 : Row.Cx
+T33 = on 19 (Relend.msptr S.row y17 10) (on 3 r18 T31)
 
 abbrev T34 : Row.Cx
-T34 = on 21 r12 (on 2 r3 T32)
+T34 = on 20 r40 (on 3 r18 T31)
 
 abbrev T36 : Row.Cx
-T36 = on 22 (Relend.msptr S.row y17 10) (on 3 r18 T34)
+T36 = on 21 (Relend.ssptr L.u8 y15 11) (on 5 r15 T34)
 
 abbrev T37 : Row.Cx
-T37 = on 23 r37 (on 3 r18 T34)
+T37 = on 22 r31 (on 5 r15 T34)
 
 abbrev T39 : Row.Cx
-T39 = on 24 (Relend.ssptr L.u8 y15 11) (on 5 r15 T37)
+T39 = on 23 r9 (on 6 r2 T37)
 
-abbrev T40 : Row.Cx
-T40 = on 25 r27 (on 5 r15 T37)
+abbrev T41 : Row.Cx
+T41 = on 24 r8 (on 23 r9 (on 22 r31 (on 20 r40 (on 18 r12 (on 11 L.h64 (on 7 r0 (on 6 r2 (on 5 r15 (on 3 r18 (on 2 r3 T0))))))))))
 
-abbrev T42 : Row.Cx
-T42 = on 26 r9 (on 6 r2 T40)
+abbrev T43 : Row.Cx
+T43 = record { locals = List._++_ t30 t31; slots = [] }
 
 abbrev T44 : Row.Cx
-T44 = on 27 r8 (on 26 r9 (on 25 r27 (on 23 r37 (on 21 r12 (on 12 L.h64 (on 7 r0 (on 6 r2 (on 5 r15 (on 3 r18 (on 2 r3 T0))))))))))
+T44 = on 25 r11 (on 24 r10 (on 23 r14 (on 20 r41 (on 18 r13 (on 12 r43 T43)))))
+
+abbrev T45 : Row.Cx
+T45 = on 22 r28 T44
 
 abbrev T46 : Row.Cx
-T46 = record { locals = List._++_ t35 (List._++_ t36 t2); slots = [] }
-
-abbrev T47 : Row.Cx
-T47 = on 28 r11 (on 27 r10 (on 26 r14 (on 23 r38 (on 21 r13 (on 13 r40 T46)))))
+T46 = on 1 r48 T45
 
 abbrev T48 : Row.Cx
-T48 = on 25 r26 T47
-
-abbrev T49 : Row.Cx
-T49 = on 1 r47 T48
+T48 = on 18 r21 (on 2 r6 T46)
 
 abbrev T51 : Row.Cx
-T51 = on 21 r21 (on 2 r6 T49)
+T51 = on 20 r38 (on 3 r35 T48)
 
 abbrev T54 : Row.Cx
-T54 = on 23 r35 (on 3 r32 T51)
+T54 = on 25 r11 (on 24 r10 (on 23 r14 (on 12 r43 (on 8 r1 (on 7 r0 (on 6 r2 (on 1 r48 T29)))))))
 
 abbrev T57 : Row.Cx
-T57 = on 28 r11 (on 27 r10 (on 26 r14 (on 13 r40 (on 8 r1 (on 7 r0 (on 6 r2 (on 1 r47 T32)))))))
+T57 = on 25 r11 (on 24 r10 (on 12 r43 (on 8 r1 (on 7 r0 (on 1 r48 T29)))))
 
 abbrev T60 : Row.Cx
-T60 = on 28 r11 (on 27 r10 (on 13 r40 (on 8 r1 (on 7 r0 (on 1 r47 T32)))))
+T60 = on 24 r19 (on 7 r4 T57)
 
 abbrev T63 : Row.Cx
-T63 = on 27 r19 (on 7 r4 T60)
+T63 = on 12 r43 (on 1 r48 T29)
 
 abbrev T66 : Row.Cx
-T66 = on 13 r40 (on 1 r47 T32)
+T66 = on 26 (Rows.sref (Array.Array L.u8 66048) y15 15) (on 8 (Frozen.held (Frozen.fz-open Y.erased 6 [] Row.off (LendAt.fz-shr (Array.Array L.u8 66048) 15))) T63)
+
+abbrev T67 : Row.Cx
+T67 = on 26 (Relend.ssptr L.u8 y15 15) T66
 
 abbrev T68 : Row.Cx
-T68 = on 14 r41 T66
+T68 = on 27 r32 (on 26 r39 T66)
 
 abbrev T70 : Row.Cx
-T70 = on 29 (Rows.sref (Array.Array L.u8 66048) y15 15) (on 8 (Frozen.held (Frozen.fz-open Y.erased 6 [] Row.off (LendAt.fz-shr (Array.Array L.u8 66048) 15))) T68)
+T70 = on 28 (Rows.sref (Array.Array L.u64 6912) y13 16) (on 7 (Frozen.held (Frozen.fz-open Y.erased 5 [] Row.off (LendAt.fz-shr (Array.Array L.u64 6912) 16))) T68)
 
 abbrev T71 : Row.Cx
-T71 = on 29 (Relend.ssptr L.u8 y15 15) T70
+T71 = on 28 (Relend.ssptr L.u64 y13 16) T70
 
 abbrev T72 : Row.Cx
-T72 = on 30 r28 (on 29 r36 T70)
+T72 = on 29 r24 (on 7 (Frozen.held (Frozen.fz-open Y.erased 5 [] Row.off (LendAt.fz-shr (Array.Array L.u64 6912) 16))) T68)
+
+abbrev T73 : Row.Cx
+T73 = on 0 r46 T72
 
 abbrev T74 : Row.Cx
-T74 = on 31 (Rows.sref (Array.Array L.u64 6912) y13 16) (on 7 (Frozen.held (Frozen.fz-open Y.erased 5 [] Row.off (LendAt.fz-shr (Array.Array L.u64 6912) 16))) T72)
+T74 = on 29 r24 (on 26 r39 (on 7 (Frozen.held (Frozen.fz-open Y.erased 5 [] Row.off (LendAt.fz-shr (Array.Array L.u64 6912) 16))) (on 0 r46 T66)))
 
 abbrev T75 : Row.Cx
-T75 = on 31 (Relend.ssptr L.u64 y13 16) (on 7 (Frozen.held (Frozen.fz-open Y.erased 5 [] Row.off (LendAt.fz-shr (Array.Array L.u64 6912) 16))) T72)
+T75 = on 29 r23 T74
 
 abbrev T76 : Row.Cx
-T76 = on 32 (Rows.sslice L.u64 y13 16) (on 7 (Frozen.held (Frozen.fz-open Y.erased 5 [] Row.off (LendAt.fz-shr (Array.Array L.u64 6912) 16))) T72)
+T76 = on 26 r39 (on 11 L.g64 (on 7 (Frozen.held (Frozen.fz-open Y.erased 5 [] Row.off (LendAt.fz-shr (Array.Array L.u64 6912) 16))) (on 0 r46 T66)))
 
 abbrev T77 : Row.Cx
-T77 = on 32 (Rows.sslice L.u64 y13 16) (on 30 r28 (on 15 r45 (on 8 (Frozen.held (Frozen.fz-open Y.erased 6 [] Row.off (LendAt.fz-shr (Array.Array L.u8 66048) 15))) (on 7 (Frozen.held
-    (Frozen.fz-open Y.erased 5 [] Row.off (LendAt.fz-shr (Array.Array L.u64 6912) 16))) T68))))
-
-abbrev T78 : Row.Cx
-T78 = on 30 r26 T77
+T77 = on 12 r47 T76
 
 abbrev T79 : Row.Cx
-T79 = on 29 r36 (on 15 r45 (on 7 (Frozen.held (Frozen.fz-open Y.erased 5 [] Row.off (LendAt.fz-shr (Array.Array L.u64 6912) 16))) T70))
-
-abbrev T80 : Row.Cx
-T80 = on 13 r46 T79
-
-abbrev T82 : Row.Cx
-T82 = on 15 r45 (on 13 r46 (on 7 (Frozen.held (Frozen.fz-open Y.erased 5 [] Row.off (LendAt.fz-shr (Array.Array L.u64 6912) 16))) T68))
-
-abbrev T85 : Row.Cx
-T85 = on 7 r4 T82
-
-abbrev T87 : Row.Cx
-T87 = on 0 r31 T85
-
-abbrev T88 : Row.Cx
-T88 = on 12 L.g64 T87
-
-abbrev T89 : Row.Cx
-T89 = on 15 r45 (on 0 r31 T27)
-
-abbrev T90 : Row.Cx
-T90 = on 0 r31 T27
-
-abbrev T91 : Row.Cx
-T91 = on 0 r31 T1
+T79 = on 7 (Frozen.held (Frozen.fz-open Y.erased 5 [] Row.off (LendAt.fz-shr (Array.Array L.u64 6912) 16))) T25
 
 abbrev O0 : Typed.Outs
 O0 = record { next = Option.none; exits = []; returns = Option.some T1 }
@@ -620,193 +550,159 @@ module _ (cl : Claims) where
   s1 = Know.k-sl-known (Referent.fInt Y.w8) T0 5 3 y12 Row.off 0 λ x. x
 
   abbrev s3 : Typed.Gives T0 T5
-  s3 = Relend.k-sl-relend L.u8 T0 4 16 2 7 y11 y14 Row.off λ x. x
+  s3 = Relend.k-sl-relend L.u8 T0 4 13 2 7 y11 y14 Row.off λ x. x
 
   abbrev s4 : Typed.Asks T5 T6
-  s4 = Relend.k-sl-aggregate L.u8 (Relend.asMut L.u8) T5 16 17 7 y14 y14 (λ x. x) (Scalar.oFld 4 (Y.field 1 ∷ []) (Y.tyInt Y.w64) 8 λ v. Shared.lenV (v .0))
+  s4 = Relend.k-sl-aggregate L.u8 (Relend.asMut L.u8) T5 13 14 7 y14 y14 (λ x. x) (Scalar.oFld 4 (Y.field 1 ∷ []) (Y.tyInt Y.w64) 8 λ v. Shared.lenV (v .0))
 
   abbrev s6 : Typed.Gives T6 T8
-  s6 = Relend.k-sl-relend L.u8 T6 5 18 3 8 y12 y14 Row.off λ x. x
+  s6 = Relend.k-sl-relend L.u8 T6 5 15 3 8 y12 y14 Row.off λ x. x
 
   abbrev s7 : Typed.Asks T8 T9
-  s7 = Relend.k-sl-aggregate L.u8 (Relend.asMut L.u8) T8 18 19 8 y14 y14 (λ x. x) (Scalar.oFld 5 (Y.field 1 ∷ []) (Y.tyInt Y.w64) 8 λ v. Shared.lenV (v .0))
+  s7 = Relend.k-sl-aggregate L.u8 (Relend.asMut L.u8) T8 15 16 8 y14 y14 (λ x. x) (Scalar.oFld 5 (Y.field 1 ∷ []) (Y.tyInt Y.w64) 8 λ v. Shared.lenV (v .0))
 
   abbrev s8 : Typed.Both T9 T10
-  s8 = Call.callB ps·0 r·0 (cl .0) (cl .1) T9 (record { pos = 17; ty = y14; ref = λ x. x }, (record { pos = 19; ty = y14; ref = λ x. x }, tt)) 10 (7 ∷ 8 ∷ []) Record′.mir
+  s8 = Call.callB ps·0 r·0 (cl .0) (cl .1) T9 (record { pos = 14; ty = y14; ref = λ x. x }, (record { pos = 16; ty = y14; ref = λ x. x }, tt)) 10 (7 ∷ 8 ∷ []) Record′.mir
 
   abbrev s10 : Typed.Both T10 T12
-  s10 = Relend.k-back-sl L.u8 T10 17 4 2 7 y11 y14 Row.off (λ x. x) λ x. x
+  s10 = Relend.k-back-sl L.u8 T10 14 4 2 7 y11 y14 Row.off (λ x. x) λ x. x
 
   abbrev s11 : Typed.Gives T12 T12
   s11 = Know.k-sl-known (Referent.fInt Y.w8) T12 4 2 y11 Row.off 0 λ x. x
 
   abbrev s14 : Typed.Both T12 T16
-  s14 = Relend.k-back-sl L.u8 T12 19 5 3 8 y12 y14 Row.off (λ x. x) λ x. x
+  s14 = Relend.k-back-sl L.u8 T12 16 5 3 8 y12 y14 Row.off (λ x. x) λ x. x
 
   abbrev s15 : Typed.Gives T16 T16
   s15 = Know.k-sl-known (Referent.fInt Y.w8) T16 5 3 y12 Row.off 0 λ x. x
 
-  abbrev s17 : Typed.Both T16 T19
-  s17 = WayStmt.k-way-copy-out T16 (Row.out 10 (T16 .locals)) (λ u. Row.drop 10 (T16 .locals) u) 11 r44 (λ u. At.getAt (Record.the-type .parts) 0 (Record.struct .as-values (u .1 .1 .1 .1 .1
-      .1 .1 .1 .1 .1 .0))) (λ T′. record { locals = Row.setRow 10 (10, r42) T′; slots = [] }) (λ u T′ m′. Row.set 10 (10, r42) (u .1 .1 .1 .1 .1 .1 .1 .1 .1 .1 .0) T′ m′) (λ u. Unit) λ u.
-      Unit
+  abbrev s17 : Typed.Gives T16 T16
+  s17 = Know'.k-struct-known Record.the-type Record′.the-laws T16 10 λ x. x
 
-  abbrev s18 : Typed.Gives T19 T19
-  s18 = Know'.k-struct-known Piece.the-type Piece′.the-laws T19 11 λ x. x
+  abbrev s18 : Typed.Asks T16 T20
+  s18 = Scalar.k-op1 T16 Y.bitNot (Scalar.oFld 10 (Y.field 0 ∷ Y.field 0 ∷ []) Y.tyBool 0 λ x. Reads.fieldV Piece.the-type Piece′.the-laws 0 (Record.struct .as-values x .0)) 17 L.hbool
+      (Row.sBool .of)
 
-  abbrev s19 : Typed.Asks T19 T21
-  s19 = Scalar.k-op1 T19 Y.bitNot (Scalar.oFld 11 (Y.field 0 ∷ []) Y.tyBool 0 (Reads.fieldV Piece.the-type Piece′.the-laws 0)) 20 L.hbool (Row.sBool .of)
+  abbrev s19 : Typed.Mo T20 → Typed.Mo T16
+  s19 = Scalar.n-room T20 17 Y.tyBool
 
-  abbrev s20 : Typed.Mo T21 → Typed.Mo T23
-  s20 = Scalar.n-room T21 10 Record′.mir
+  abbrev s20 : Typed.Both T16 T23
+  s20 = Call.callB ps·1 r·1 (cl .2) (cl .3) T16 (record { pos = 1; st = []; d = 0; at = λ x. x }, (record { pos = 10; st = []; d = 0; at = λ x. x }, tt)) 0 [] After′.mir
 
   abbrev s21 : Typed.Mo T23 → Typed.Mo T24
-  s21 = Scalar.n-room T23 20 Y.tyBool
+  s21 = Scalar.n-room T23 1 Session′.mir
 
-  abbrev s22 : Typed.Both T24 T25
-  s22 = Call.callB ps·1 r·1 (cl .2) (cl .3) T24 (record { pos = 1; st = []; d = 0; at = λ x. x }, (record { pos = 11; st = []; d = 0; at = λ x. x }, tt)) 0 [] After′.mir
+  abbrev s22 : Typed.Mo T24 → Typed.Mo T25
+  s22 = Scalar.n-room T24 10 Record′.mir
 
-  abbrev s23 : Typed.Mo T25 → Typed.Mo T26
-  s23 = Scalar.n-room T25 1 Session′.mir
+  abbrev s23 : Typed.Mo T25 → Typed.Mo T1
+  s23 = Scalar.n-room T25 9 Y.tyBool
 
-  abbrev s24 : Typed.Mo T26 → Typed.Mo T27
-  s24 = Scalar.n-room T26 11 Piece′.mir
+  abbrev s25 : Typed.Mo T16 → Typed.Mo T28
+  s25 = Scalar.n-use T16 (Scalar.oFld 10 (Y.field 1 ∷ []) (Y.tyInt Y.w64) 8 (Reads.fieldV Record.the-type Record′.the-laws 1)) 11 L.h64 (Row.sInt Y.w64 .of)
 
-  abbrev s25 : Typed.Mo T27 → Typed.Mo T1
-  s25 = Scalar.n-room T27 9 Y.tyBool
+  abbrev s26 : Typed.Mo T28 → Typed.Mo T29
+  s26 = Scalar.n-room T28 10 Record′.mir
 
-  abbrev s26 : Typed.Mo T21 → Typed.Mo T29
-  s26 = Scalar.n-room T21 11 Piece′.mir
+  abbrev s28 : Typed.Gives T29 T31
+  s28 = Reborrow.k-mref-relend T29 2 18 0 9 (Array.Array L.u64 928) y2 y6 Row.off [] λ x. x
 
-  abbrev s27 : Typed.Mo T29 → Typed.Mo T16
-  s27 = Scalar.n-room T29 20 Y.tyBool
+  abbrev s30 : Typed.Gives T31 T33
+  s30 = Relend.k-sl-relend S.row T31 3 19 1 10 y16 y17 Row.off λ x. x
 
-  abbrev s28 : Typed.Mo T16 → Typed.Mo T31
-  s28 = Scalar.n-use T16 (Scalar.oFld 10 (Y.field 1 ∷ []) (Y.tyInt Y.w64) 8 (Reads.fieldV Record.the-type Record′.the-laws 1)) 12 L.h64 (Row.sInt Y.w64 .of)
+  abbrev s31 : Typed.Asks T33 T34
+  s31 = Relend.k-sl-aggregate S.row (Relend.asMut S.row) T33 19 20 10 y17 y17 (λ x. x) (Scalar.oFld 3 (Y.field 1 ∷ []) (Y.tyInt Y.w64) 8 λ v. Shared.lenV (v .0))
 
-  abbrev s29 : Typed.Mo T31 → Typed.Mo T32
-  s29 = Scalar.n-room T31 10 Record′.mir
-
-  abbrev s31 : Typed.Gives T32 T34
-  s31 = Reborrow.k-mref-relend T32 2 21 0 9 (Array.Array L.u64 928) y2 y6 Row.off [] λ x. x
-
-  abbrev s33 : Typed.Gives T34 T36
-  s33 = Relend.k-sl-relend S.row T34 3 22 1 10 y16 y17 Row.off λ x. x
+  abbrev s33 : Typed.Both T34 T36
+  s33 = Reshare.k-sl-reshareᵖ L.u8 T34 5 21 3 11 y12 y15 Row.off (λ x. x) λ u. u .1 .1 .1 .1 .1 .1 .1 .1 .1 .1 .1 .0
 
   abbrev s34 : Typed.Asks T36 T37
-  s34 = Relend.k-sl-aggregate S.row (Relend.asMut S.row) T36 22 23 10 y17 y17 (λ x. x) (Scalar.oFld 3 (Y.field 1 ∷ []) (Y.tyInt Y.w64) 8 λ v. Shared.lenV (v .0))
+  s34 = Relend.k-sl-aggregate L.u8 (Relend.asShr L.u8) T36 21 22 11 y15 y15 (λ x. x) (Scalar.oAt 11 (Y.tyInt Y.w64) (Row.valS (Row.sInt Y.w64)))
 
-  abbrev s36 : Typed.Both T37 T39
-  s36 = Reshare.k-sl-reshareᵖ L.u8 T37 5 24 3 11 y12 y15 Row.off (λ x. x) λ u. u .1 .1 .1 .1 .1 .1 .1 .1 .1 .1 .1 .1 .0
+  abbrev s36 : Typed.Gives T37 T39
+  s36 = Reborrow.k-mref-relend T37 6 23 4 12 (Array.Array L.u64 512) y3 y7 Row.off [] λ x. x
 
-  abbrev s37 : Typed.Asks T39 T40
-  s37 = Relend.k-sl-aggregate L.u8 (Relend.asShr L.u8) T39 24 25 11 y15 y15 (λ x. x) (Scalar.oAt 12 (Y.tyInt Y.w64) (Row.valS (Row.sInt Y.w64)))
+  abbrev s38 : Typed.Gives T39 T41
+  s38 = Reborrow.k-mref-relend T39 7 24 5 13 (Array.Array L.u64 6912) y0 y5 Row.off [] λ x. x
 
-  abbrev s39 : Typed.Gives T40 T42
-  s39 = Reborrow.k-mref-relend T40 6 26 4 12 (Array.Array L.u64 512) y3 y7 Row.off [] λ x. x
+  abbrev s40 : Typed.Gives T41 T43
+  s40 = Reborrow.k-mref-relend T41 8 25 6 14 (Array.Array L.u8 66048) y1 y4 Row.off [] λ x. x
 
-  abbrev s41 : Typed.Gives T42 T44
-  s41 = Reborrow.k-mref-relend T42 7 27 5 13 (Array.Array L.u64 6912) y0 y5 Row.off [] λ x. x
+  abbrev s41 : Typed.Both T43 T44
+  s41 = Call.callB ps·2 r·2 (cl .4) (cl .5) T43
+      (record { pos = 1; st = []; d = 0; at = λ x. x }, (record { pos = 18; ty = y6; ref = λ x. x }, (record { pos = 20; ty = y17; ref = λ x. x }, (record { pos = 22; ty = y15; ref = λ x. x }, (record { pos = 23; ty = y7; ref = λ x. x }, (record { pos = 24; ty = y5; ref = λ x. x }, (record { pos = 25; ty = y4; ref = λ x. x }, tt)))))))
+      12 (9 ∷ 10 ∷ 11 ∷ 12 ∷ 13 ∷ 14 ∷ []) Answered′.mir
 
-  abbrev s43 : Typed.Gives T44 T46
-  s43 = Reborrow.k-mref-relend T44 8 28 6 14 (Array.Array L.u8 66048) y1 y4 Row.off [] λ x. x
+  abbrev s42 : Typed.Mo T44 → Typed.Mo T45
+  s42 = Scalar.n-room T44 22 y9
 
-  abbrev s44 : Typed.Both T46 T47
-  s44 = Call.callB ps·2 r·2 (cl .4) (cl .5) T46
-      (record { pos = 1; st = []; d = 0; at = λ x. x }, (record { pos = 21; ty = y6; ref = λ x. x }, (record { pos = 23; ty = y17; ref = λ x. x }, (record { pos = 25; ty = y15; ref = λ x. x }, (record { pos = 26; ty = y7; ref = λ x. x }, (record { pos = 27; ty = y5; ref = λ x. x }, (record { pos = 28; ty = y4; ref = λ x. x }, tt)))))))
-      13 (9 ∷ 10 ∷ 11 ∷ 12 ∷ 13 ∷ 14 ∷ []) Answered′.mir
+  abbrev s43 : Typed.Mo T45 → Typed.Mo T46
+  s43 = Scalar.n-room T45 1 Session′.mir
 
-  abbrev s45 : Typed.Mo T47 → Typed.Mo T48
-  s45 = Scalar.n-room T47 25 y9
+  abbrev s45 : Typed.Asks T46 T48
+  s45 = Reborrow.k-back-mref T46 18 2 0 (Array.Array L.u64 928) y2 y6 [] (λ x. x) λ x. x
 
-  abbrev s46 : Typed.Mo T48 → Typed.Mo T49
-  s46 = Scalar.n-room T48 1 Session′.mir
+  abbrev s48 : Typed.Both T48 T51
+  s48 = Relend.k-back-sl S.row T48 20 3 1 10 y16 y17 Row.off (λ x. x) λ x. x
 
-  abbrev s48 : Typed.Asks T49 T51
-  s48 = Reborrow.k-back-mref T49 21 2 0 (Array.Array L.u64 928) y2 y6 [] (λ x. x) λ x. x
+  abbrev s51 : Typed.Mo T51 → Typed.Mo T54
+  s51 = Reshare.n-back-sl-shrᵖ L.u8 T51 5 3 11 y12 Row.off λ x. x
 
-  abbrev s51 : Typed.Both T51 T54
-  s51 = Relend.k-back-sl S.row T51 23 3 1 10 y16 y17 Row.off (λ x. x) λ x. x
-
-  abbrev s54 : Typed.Mo T54 → Typed.Mo T57
-  s54 = Reshare.n-back-sl-shrᵖ L.u8 T54 5 3 11 y12 Row.off λ x. x
+  abbrev s54 : Typed.Asks T54 T57
+  s54 = Reborrow.k-back-mref T54 23 6 4 (Array.Array L.u64 512) y3 y7 [] (λ x. x) λ x. x
 
   abbrev s57 : Typed.Asks T57 T60
-  s57 = Reborrow.k-back-mref T57 26 6 4 (Array.Array L.u64 512) y3 y7 [] (λ x. x) λ x. x
+  s57 = Reborrow.k-back-mref T57 24 7 5 (Array.Array L.u64 6912) y0 y5 [] (λ x. x) λ x. x
 
   abbrev s60 : Typed.Asks T60 T63
-  s60 = Reborrow.k-back-mref T60 27 7 5 (Array.Array L.u64 6912) y0 y5 [] (λ x. x) λ x. x
+  s60 = Reborrow.k-back-mref T60 25 8 6 (Array.Array L.u8 66048) y1 y4 [] (λ x. x) λ x. x
 
-  abbrev s63 : Typed.Asks T63 T66
-  s63 = Reborrow.k-back-mref T63 28 8 6 (Array.Array L.u8 66048) y1 y4 [] (λ x. x) λ x. x
-
-  abbrev s65 : Typed.Both T66 T68
-  s65 = WayStmt.k-way-copy-out T66 (Row.out 13 (T66 .locals)) (λ u. Row.drop 13 (T66 .locals) u) 14 r41 (λ u. At.getAt (Answered.the-type .parts) 0 (Answered.struct .as-values (u .1 .1 .1 .1
-      .1 .1 .1 .1 .1 .1 .1 .1 .1 .0))) (λ T′. record { locals = Row.setRow 13 (13, r40) T′; slots = [] }) (λ u T′ m′. Row.set 13 (13, r40) (u .1 .1 .1 .1 .1 .1 .1 .1 .1 .1 .1 .1 .1 .0) T′
-      m′) (λ u. Unit) λ u. Unit
-
-  abbrev s67 : Typed.Both T68 T70
-  s67 = LendAt.k-way-share (Array.Array L.u8 66048) T68 (Row.out 8 (T68 .locals)) (λ u. Row.drop 8 (T68 .locals) u) y15 29 15 (λ u. u .1 .1 .1 .1 .1 .1 .1 .1 .0 .now) (λ T′. record
+  abbrev s63 : Typed.Both T63 T66
+  s63 = LendAt.k-way-share (Array.Array L.u8 66048) T63 (Row.out 8 (T63 .locals)) (λ u. Row.drop 8 (T63 .locals) u) y15 26 15 (λ u. u .1 .1 .1 .1 .1 .1 .1 .1 .0 .now) (λ T′. record
       { locals = Row.setRow 8 (8, Frozen.held (Frozen.fz-open Y.erased 6 [] Row.off (LendAt.fz-shr (Array.Array L.u8 66048) 15))) T′; slots = [] }) (λ u γ T′ m′. Row.set 8
       (8, Frozen.held (Frozen.fz-open Y.erased 6 [] Row.off (LendAt.fz-shr (Array.Array L.u8 66048) 15))) (u .1 .1 .1 .1 .1 .1 .1 .1 .0, γ) T′ m′) λ u. Unit
 
-  abbrev s68 : Typed.Gives T70 T71
-  s68 = AsSlice.k-sref-as-slice T70 29 15 L.u8 66048 y15 Row.alive λ x. x
+  abbrev s64 : Typed.Gives T66 T67
+  s64 = AsSlice.k-sref-as-slice T66 26 15 L.u8 66048 y15 Row.alive λ x. x
 
-  abbrev s69 : Typed.Asks T71 T72
-  s69 = Relend.k-sl-aggregate L.u8 (Relend.asShr L.u8) T71 29 30 15 y15 y15 (λ x. x) (Scalar.oBig Y.w64 66048)
+  abbrev s65 : Typed.Asks T67 T68
+  s65 = Relend.k-sl-aggregate L.u8 (Relend.asShr L.u8) T67 26 27 15 y15 y15 (λ x. x) (Scalar.oBig Y.w64 66048)
 
-  abbrev s71 : Typed.Both T72 T74
-  s71 = LendAt.k-way-share (Array.Array L.u64 6912) T72 (Row.out 7 (T72 .locals)) (λ u. Row.drop 7 (T72 .locals) u) y13 31 16 (λ u. u .1 .1 .1 .1 .1 .1 .1 .0 .now) (λ T′. record
+  abbrev s67 : Typed.Both T68 T70
+  s67 = LendAt.k-way-share (Array.Array L.u64 6912) T68 (Row.out 7 (T68 .locals)) (λ u. Row.drop 7 (T68 .locals) u) y13 28 16 (λ u. u .1 .1 .1 .1 .1 .1 .1 .0 .now) (λ T′. record
       { locals = Row.setRow 7 (7, Frozen.held (Frozen.fz-open Y.erased 5 [] Row.off (LendAt.fz-shr (Array.Array L.u64 6912) 16))) T′; slots = [] }) (λ u γ T′ m′. Row.set 7
       (7, Frozen.held (Frozen.fz-open Y.erased 5 [] Row.off (LendAt.fz-shr (Array.Array L.u64 6912) 16))) (u .1 .1 .1 .1 .1 .1 .1 .0, γ) T′ m′) λ u. Unit
 
-  abbrev s72 : Typed.Gives T74 T75
-  s72 = AsSlice.k-sref-as-slice T74 31 16 L.u64 6912 y13 Row.alive λ x. x
+  abbrev s68 : Typed.Gives T70 T71
+  s68 = AsSlice.k-sref-as-slice T70 28 16 L.u64 6912 y13 Row.alive λ x. x
 
-  abbrev s73 : Typed.Asks T75 T76
-  s73 = Relend.k-sl-aggregate L.u64 (Relend.asShr L.u64) T75 31 32 16 y13 y13 (λ x. x) (Scalar.oBig Y.w64 6912)
+  abbrev s69 : Typed.Asks T71 T72
+  s69 = Relend.k-sl-aggregate L.u64 (Relend.asShr L.u64) T71 28 29 16 y13 y13 (λ x. x) (Scalar.oBig Y.w64 6912)
 
-  abbrev s74 : Typed.Both T76 T77
-  s74 = Call.callB ps·3 r·3 (cl .6) (cl .7) T76
-      (Bool.bAt 9 λ x. x, (record { pos = 30; ty = y15; ref = λ x. x }, (Num.vFld 13 (Y.field 1 ∷ []) 88 λ x. Answered.struct .as-values x .1 .0, (record { pos = 32; ty = y13; ref = λ x. x }, tt))))
-      15 (15 ∷ 16 ∷ []) Told′.mir
+  abbrev s70 : Typed.Both T72 T73
+  s70 = Call.callB ps·3 r·3 (cl .6) (cl .7) T72
+      (Bool.bAt 9 λ x. x, (record { pos = 12; st = []; d = 0; at = λ x. x }, (record { pos = 27; ty = y15; ref = λ x. x }, (record { pos = 29; ty = y13; ref = λ x. x }, tt)))) 0 (15 ∷ 16 ∷
+      []) After′.mir
 
-  abbrev s75 : Typed.Mo T77 → Typed.Mo T78
-  s75 = Scalar.n-room T77 30 y9
+  abbrev s71 : Typed.Mo T73 → Typed.Mo T74
+  s71 = Scalar.n-room T73 27 y9
 
-  abbrev s76 : Typed.Mo T78 → Typed.Mo T79
-  s76 = Scalar.n-room T78 32 y8
+  abbrev s72 : Typed.Mo T74 → Typed.Mo T75
+  s72 = Scalar.n-room T74 29 y8
 
-  abbrev s77 : Typed.Mo T79 → Typed.Mo T80
-  s77 = Scalar.n-room T79 13 Answered′.mir
+  abbrev s73 : Typed.Mo T75 → Typed.Mo T76
+  s73 = Scalar.n-room T75 11 (Y.tyInt Y.w64)
 
-  abbrev s79 : Typed.Asks T80 T82
-  s79 = LendAt.k-way-back-shr (Frozen.fz-open Y.erased 6 [] Row.off (LendAt.fz-shr (Array.Array L.u8 66048) 15)) (LendAt.as-was-open Y.erased 6 [] Row.off (LendAt.fz-shr (Array.Array L.u8
-      66048) 15) (LendAt.as-was-shr (Array.Array L.u8 66048) 15)) T80 8 r5 [] (λ x. x) λ x. x
+  abbrev s74 : Typed.Mo T76 → Typed.Mo T77
+  s74 = Scalar.n-room T76 12 Answered′.mir
 
-  abbrev s82 : Typed.Asks T82 T85
-  s82 = LendAt.k-way-back-shr (Frozen.fz-open Y.erased 5 [] Row.off (LendAt.fz-shr (Array.Array L.u64 6912) 16)) (LendAt.as-was-open Y.erased 5 [] Row.off (LendAt.fz-shr (Array.Array L.u64
-      6912) 16) (LendAt.as-was-shr (Array.Array L.u64 6912) 16)) T82 7 r4 [] (λ x. x) λ x. x
+  abbrev s76 : Typed.Asks T77 T79
+  s76 = LendAt.k-way-back-shr (Frozen.fz-open Y.erased 6 [] Row.off (LendAt.fz-shr (Array.Array L.u8 66048) 15)) (LendAt.as-was-open Y.erased 6 [] Row.off (LendAt.fz-shr (Array.Array L.u8
+      66048) 15) (LendAt.as-was-shr (Array.Array L.u8 66048) 15)) T77 8 r5 [] (λ x. x) λ x. x
 
-  abbrev s84 : Typed.Mo T85 → Typed.Mo T87
-  s84 = Make.n-make (Declared.row (Apart.apartT After.the-type)) T85 0 λ m.
-      (m .1 .1 .1 .1 .1 .1 .1 .1 .1 .1 .1 .1 .1 .1 .0, (Told.struct .as-values (m .1 .1 .1 .1 .1 .1 .1 .1 .1 .1 .1 .1 .1 .1 .1 .0) .0, (Told.struct .as-values (m .1 .1 .1 .1 .1 .1 .1 .1 .1 .1 .1 .1 .1 .1 .1 .0) .1 .0, tt)))
-
-  abbrev s85 : Typed.Mo T87 → Typed.Mo T88
-  s85 = Scalar.n-room T87 12 (Y.tyInt Y.w64)
-
-  abbrev s86 : Typed.Mo T88 → Typed.Mo T89
-  s86 = Scalar.n-room T88 14 Session′.mir
-
-  abbrev s87 : Typed.Mo T89 → Typed.Mo T90
-  s87 = Scalar.n-room T89 15 Told′.mir
-
-  abbrev s88 : Typed.Mo T90 → Typed.Mo T91
-  s88 = Scalar.n-room T90 9 Y.tyBool
-
-  abbrev s89 : Typed.Mo T91 → Typed.Mo T1
-  s89 = AtSlots.n-as-by T91 0 r43 λ v. After.struct .make v tt
+  abbrev s79 : Typed.Asks T79 T25
+  s79 = LendAt.k-way-back-shr (Frozen.fz-open Y.erased 5 [] Row.off (LendAt.fz-shr (Array.Array L.u64 6912) 16)) (LendAt.as-was-open Y.erased 5 [] Row.off (LendAt.fz-shr (Array.Array L.u64
+      6912) 16) (LendAt.as-was-shr (Array.Array L.u64 6912) 16)) T79 7 r4 [] (λ x. x) λ x. x
 
   module _ (Pre· : (κs : Lifetimes.Lfts 7) → Kinds.Dens κs ps → Type 0) (Post· : (κs : Lifetimes.Lfts 7) → (a : Kinds.Dens κs ps) → Kinds.Plain 7 ps r κs) where
     abbrev pub Closed : (M : Type 1) → Type 2
@@ -815,59 +711,59 @@ module _ (cl : Claims) where
         Plain.Known U H A W C 2 ps·3 r·3 (cl .6) (cl .7) "session_main::tell_all") → Statement.Triple U (Wp.WpFn U H (C .C) (C .Λ) (Function.fnOf 7 ps r xs m hs body)) (Function.plainOf U H
         A 7 ps r Pre· Post·)
 
-    abbrev at3 : Typed.TF T25 O1
-    at3 = λ Ψ. Typed.pass T25 T26 s23 (Typed.pass T26 T27 s24 (Typed.pass T27 T1 s25 (Typed.atRet O1 Ψ)))
+    abbrev at3 : Typed.TF T23 O1
+    at3 = λ Ψ. Typed.pass T23 T24 s21 (Typed.pass T24 T25 s22 (Typed.pass T25 T1 s23 (Typed.atRet O1 Ψ)))
 
-    abbrev at6 : Typed.TF T21 O1
-    at6 = λ Ψ. Typed.pass T21 T23 s20 (Typed.pass T23 T24 s21 (Typed.both s22 (at3 Ψ)))
+    abbrev at5 : Typed.TF T20 O1
+    at5 = λ Ψ. Typed.pass T20 T16 s19 (Typed.both s20 (at3 Ψ))
 
-    abbrev at9 : Typed.TF T21 O1
-    at9 = λ Ψ. Typed.pass T21 T29 s26 (Typed.pass T29 T16 s27 (Typed.atNext O1 Ψ))
+    abbrev at7 : Typed.TF T20 O1
+    at7 = λ Ψ. Typed.pass T20 T16 s19 (Typed.atNext O1 Ψ)
 
-    abbrev at10 : Typed.TF T21 O1
-    at10 = Scalar.Φcond T21 O1 20 (λ x. x) at6 at9
+    abbrev at8 : Typed.TF T20 O1
+    at8 = Scalar.Φcond T20 O1 17 (λ x. x) at5 at7
 
-    abbrev at18 : Typed.TF T85 O0
-    at18 = λ Ψ. Typed.pass T85 T87 s84 (Typed.pass T87 T88 s85 (Typed.pass T88 T89 s86 (Typed.pass T89 T90 s87 (Typed.pass T90 T91 s88 (Typed.pass T91 T1 s89 (Typed.atRet O0 Ψ))))))
+    abbrev at16 : Typed.TF T77 O0
+    at16 = λ Ψ. Typed.ask s76 (Typed.ask s79 (Typed.pass T25 T1 s23 (Typed.atRet O0 Ψ)))
 
-    abbrev at26 : Typed.TF T77 O0
-    at26 = λ Ψ. Typed.pass T77 T78 s75 (Typed.pass T78 T79 s76 (Typed.pass T79 T80 s77 (Typed.ask s79 (Typed.ask s82 (at18 Ψ)))))
+    abbrev at20 : Typed.TF T73 O0
+    at20 = λ Ψ. Typed.pass T73 T74 s71 (Typed.pass T74 T75 s72 (Typed.pass T75 T76 s73 (Typed.pass T76 T77 s74 (at16 Ψ))))
 
-    abbrev at34 : Typed.TF T68 O0
-    at34 = λ Ψ. Typed.both s67 (Typed.give s68 (Typed.ask s69 (Typed.both s71 (Typed.give s72 (Typed.ask s73 (Typed.both s74 (at26 Ψ)))))))
+    abbrev at28 : Typed.TF T63 O0
+    at28 = λ Ψ. Typed.both s63 (Typed.give s64 (Typed.ask s65 (Typed.both s67 (Typed.give s68 (Typed.ask s69 (Typed.both s70 (at20 Ψ)))))))
 
-    abbrev at42 : Typed.TF T60 O0
-    at42 = λ Ψ. Typed.ask s60 (Typed.ask s63 (Typed.both s65 (at34 Ψ)))
+    abbrev at36 : Typed.TF T57 O0
+    at36 = λ Ψ. Typed.ask s57 (Typed.ask s60 (at28 Ψ))
 
-    abbrev at50 : Typed.TF T51 O0
-    at50 = λ Ψ. Typed.both s51 (Typed.pass T54 T57 s54 (Typed.ask s57 (at42 Ψ)))
+    abbrev at44 : Typed.TF T48 O0
+    at44 = λ Ψ. Typed.both s48 (Typed.pass T51 T54 s51 (Typed.ask s54 (at36 Ψ)))
 
-    abbrev at56 : Typed.TF T47 O0
-    at56 = λ Ψ. Typed.pass T47 T48 s45 (Typed.pass T48 T49 s46 (Typed.ask s48 (at50 Ψ)))
+    abbrev at49 : Typed.TF T44 O0
+    at49 = λ Ψ. Typed.pass T44 T45 s42 (Typed.pass T45 T46 s43 (Typed.ask s45 (at44 Ψ)))
 
-    abbrev at64 : Typed.TF T39 O0
-    at64 = λ Ψ. Typed.ask s37 (Typed.give s39 (Typed.give s41 (Typed.give s43 (Typed.both s44 (at56 Ψ)))))
+    abbrev at57 : Typed.TF T36 O0
+    at57 = λ Ψ. Typed.ask s34 (Typed.give s36 (Typed.give s38 (Typed.give s40 (Typed.both s41 (at49 Ψ)))))
 
-    abbrev at72 : Typed.TF T31 O0
-    at72 = λ Ψ. Typed.pass T31 T32 s29 (Typed.give s31 (Typed.give s33 (Typed.ask s34 (Typed.both s36 (at64 Ψ)))))
+    abbrev at65 : Typed.TF T28 O0
+    at65 = λ Ψ. Typed.pass T28 T29 s26 (Typed.give s28 (Typed.give s30 (Typed.ask s31 (Typed.both s33 (at57 Ψ)))))
 
-    abbrev at73 : Typed.TF T16 O0
-    at73 = λ Ψ. Typed.pass T16 T31 s28 (at72 Ψ)
+    abbrev at66 : Typed.TF T16 O0
+    at66 = λ Ψ. Typed.pass T16 T28 s25 (at65 Ψ)
 
-    abbrev at81 : Typed.TF T12 O0
-    at81 = λ Ψ. Typed.both s14 (Typed.give s15 (Typed.both s17 (Typed.give s18 (Typed.ask s19 (at10 (Typed.wantNext T16 O0 (at73 Ψ) Ψ))))))
+    abbrev at74 : Typed.TF T12 O0
+    at74 = λ Ψ. Typed.both s14 (Typed.give s15 (Typed.give s17 (Typed.ask s18 (at8 (Typed.wantNext T16 O0 (at66 Ψ) Ψ)))))
 
-    abbrev at85 : Typed.TF T10 O0
-    at85 = λ Ψ. Typed.both s10 (Typed.give s11 (at81 Ψ))
+    abbrev at77 : Typed.TF T10 O0
+    at77 = λ Ψ. Typed.both s10 (Typed.give s11 (at74 Ψ))
 
-    abbrev at93 : Typed.TF T0 O0
-    at93 = λ Ψ. Typed.give s1 (Typed.give s3 (Typed.ask s4 (Typed.give s6 (Typed.ask s7 (Typed.both s8 (at85 Ψ))))))
+    abbrev at85 : Typed.TF T0 O0
+    at85 = λ Ψ. Typed.give s1 (Typed.give s3 (Typed.ask s4 (Typed.give s6 (Typed.ask s7 (Typed.both s8 (at77 Ψ))))))
 
-    abbrev at94 : Typed.TF T0 O0
-    at94 = λ Ψ. Typed.give s0 (at93 Ψ)
+    abbrev at86 : Typed.TF T0 O0
+    at86 = λ Ψ. Typed.give s0 (at85 Ψ)
 
-    abbrev pub Φ : (bs : List.List Nat.ℕ) → Typed.TF T0 O0
-    Φ bs = at94
+    abbrev pub Φ : Typed.TF T0 O0
+    Φ = at86
 
     module _ {M : Type 1} (U : URA.URA M) (H : Wp.Heap U) (A : Atoms.Atoms U) (W : Kit.Given U H A) (C : Wp.Tables U H) where
       abbrev Knowns : Type 1
@@ -899,58 +795,57 @@ module _ (cl : Claims) where
       abbrev z0 : List.List Row.Life
       z0 = l0 ∷ l1 ∷ l2 ∷ l3 ∷ l4 ∷ l5 ∷ l6 ∷ Row.off ∷ Row.off ∷ Row.off ∷ Row.off ∷ Row.off ∷ Row.off ∷ Row.off ∷ Row.off ∷ Row.off ∷ Row.off ∷ []
 
-      abbrev g12 : List.List Row.Entry
-      g12 = (0, r49) ∷ (1, r41) ∷ (2, r6) ∷ (3, r32) ∷ (4, r23) ∷ (5, Relend.mslice-owed L.u8 y12 3 8 l3) ∷ (6, r7) ∷ (7, r4) ∷ (8, r5) ∷ (9, L.hbool) ∷ (10, r42) ∷ (11, r50) ∷ (12, L.g64) ∷
-          (13, r46) ∷ (14, r47) ∷ (15, r51) ∷ []
-
-      abbrev g41 : List.List Row.Entry
-      g41 = (0, r49) ∷ (1, r47) ∷ (2, r6) ∷ (3, Relend.mslice-owed S.row y16 1 10 l1) ∷ (4, r23) ∷ (5, Reshare.mslice-owedSᵖ L.u8 y12 3 11 l3) ∷
+      abbrev g36 : List.List Row.Entry
+      g36 = (0, r50) ∷ (1, r48) ∷ (2, r6) ∷ (3, Relend.mslice-owed S.row y16 1 10 l1) ∷ (4, r25) ∷ (5, Reshare.mslice-owedSᵖ L.u8 y12 3 11 l3) ∷
           (6, Rows.mref-owed (Array.Array L.u64 512) y3 4 12 l4) ∷ (7, Rows.mref-owed (Array.Array L.u64 6912) y0 5 13 l5) ∷ (8, Rows.mref-owed (Array.Array L.u8 66048) y1 6 14 l6) ∷
-          (9, L.hbool) ∷ (10, r48) ∷ (11, r50) ∷ (12, L.h64) ∷ (13, r40) ∷ (14, r47) ∷ (15, r51) ∷ []
+          (9, L.hbool) ∷ (10, r49) ∷ (11, L.h64) ∷ (12, r43) ∷ (13, r37) ∷ (14, r27) ∷ (15, r37) ∷ []
 
-      abbrev g52 : List.List Row.Entry
-      g52 = (0, r49) ∷ (1, r47) ∷ (2, r6) ∷ (3, r32) ∷ (4, r23) ∷ (5, r24) ∷ (6, r7) ∷ (7, r4) ∷
-          (8, Frozen.held (Frozen.fz-open Y.erased 6 (κs .1 .1 .1 .1 .1 .1 .0) l6 (LendAt.fz-shr (Array.Array L.u8 66048) 15))) ∷ (9, L.hbool) ∷ (10, r48) ∷ (11, r50) ∷ (12, L.h64) ∷
-          (13, r40) ∷ (14, r41) ∷ (15, r51) ∷ []
+      abbrev g46 : List.List Row.Entry
+      g46 = (0, r50) ∷ (1, r48) ∷ (2, r6) ∷ (3, r35) ∷ (4, r25) ∷ (5, r26) ∷ (6, r7) ∷ (7, r4) ∷
+          (8, Frozen.held (Frozen.fz-open Y.erased 6 (κs .1 .1 .1 .1 .1 .1 .0) l6 (LendAt.fz-shr (Array.Array L.u8 66048) 15))) ∷ (9, L.hbool) ∷ (10, r49) ∷ (11, L.h64) ∷ (12, r43) ∷
+          (13, r37) ∷ (14, r27) ∷ (15, r37) ∷ []
 
       abbrev G0 : Row.Cx
       G0 = lives z0 T0
 
-      abbrev G1 : Row.Cx
-      G1 = lives z0 T1
+      abbrev G10 : Row.Cx
+      G10 = lives (l0 ∷ l1 ∷ Row.off ∷ Row.off ∷ l4 ∷ l5 ∷ l6 ∷ Row.alive ∷ Row.alive ∷ Row.off ∷ Row.off ∷ Row.off ∷ Row.off ∷ Row.off ∷ Row.off ∷ Row.off ∷ Row.off ∷ []) (on 5
+          (Relend.mslice-owed L.u8 y12 3 8 l3) (on 4 (Relend.mslice-owed L.u8 y11 2 7 l2) T10))
 
       abbrev G18 : Row.Cx
       G18 = lives z0 T16
 
-      abbrev G21 : Row.Cx
-      G21 = lives z0 T21
+      abbrev G20 : Row.Cx
+      G20 = lives z0 T20
 
-      abbrev G53 : Row.Cx
-      G53 = record
-          { locals = List._++_ g41 (List._++_ t42 t2); slots = l0 ∷ Row.off ∷ l2 ∷ Row.off ∷ Row.off ∷ Row.off ∷ Row.off ∷ Row.off ∷ Row.off ∷ Row.off ∷ Row.dead ∷ Row.alive ∷ Row.alive ∷ Row.alive ∷ Row.alive ∷ Row.off ∷ Row.off ∷ [] }
+      abbrev G28 : Row.Cx
+      G28 = lives z0 T28
 
-      abbrev G67 : Row.Cx
-      G67 = lives z0 T66
+      abbrev G49 : Row.Cx
+      G49 = record
+          { locals = List._++_ g36 t37; slots = l0 ∷ Row.off ∷ l2 ∷ Row.off ∷ Row.off ∷ Row.off ∷ Row.off ∷ Row.off ∷ Row.off ∷ Row.off ∷ Row.alive ∷ Row.alive ∷ Row.alive ∷ Row.alive ∷ Row.alive ∷ Row.off ∷ Row.off ∷ [] }
+
+      abbrev G65 : Row.Cx
+      G65 = life 15 Row.alive (on 12 r43 (on 10 r49 (on 1 r48 G28)))
 
       abbrev G69 : Row.Cx
-      G69 = life 15 Row.alive (on 14 r41 G67)
+      G69 = record
+          { locals = List._++_ g46 t49; slots = l0 ∷ l1 ∷ l2 ∷ l3 ∷ l4 ∷ l5 ∷ Row.off ∷ Row.off ∷ Row.off ∷ Row.off ∷ Row.off ∷ Row.off ∷ Row.off ∷ Row.off ∷ Row.off ∷ Row.alive ∷ Row.alive ∷ [] }
 
       abbrev G73 : Row.Cx
-      G73 = record
-          { locals = List._++_ g52 (List._++_ t55 t2); slots = l0 ∷ l1 ∷ l2 ∷ l3 ∷ l4 ∷ l5 ∷ Row.off ∷ Row.off ∷ Row.off ∷ Row.off ∷ Row.off ∷ Row.off ∷ Row.off ∷ Row.off ∷ Row.off ∷ Row.alive ∷ Row.alive ∷ [] }
+      G73 = life 5 Row.off (on 29 r24 (on 7 (Frozen.held (Frozen.fz-open Y.erased 5 (κs .1 .1 .1 .1 .1 .0) l5 (LendAt.fz-shr (Array.Array L.u64 6912) 16))) (on 0 r46 G69)))
 
       abbrev G77 : Row.Cx
-      G77 = life 5 Row.off (on 32 (Rows.sslice L.u64 y13 16) (on 15 r45 (on 7 (Frozen.held (Frozen.fz-open Y.erased 5 (κs .1 .1 .1 .1 .1 .0) l5 (LendAt.fz-shr (Array.Array L.u64 6912) 16)))
-          G73)))
+      G77 = on 29 r23 (on 27 r28 (on 12 r47 (on 11 L.g64 G73)))
+
+      abbrev G78 : Row.Cx
+      G78 = life 15 Row.dead G77
 
       abbrev G81 : Row.Cx
-      G81 = life 15 Row.dead (on 32 (Rows.any-gone y8) (on 30 r26 (on 13 r46 G77)))
-
-      abbrev G84 : Row.Cx
-      G84 = lives (l0 ∷ l1 ∷ l2 ∷ l3 ∷ l4 ∷ Row.off ∷ l6 ∷ Row.off ∷ Row.off ∷ Row.off ∷ Row.off ∷ Row.off ∷ Row.off ∷ Row.off ∷ Row.off ∷ Row.off ∷ Row.dead ∷ []) (on 8 r5 G81)
+      G81 = lives (l0 ∷ l1 ∷ l2 ∷ l3 ∷ l4 ∷ Row.off ∷ l6 ∷ Row.off ∷ Row.off ∷ Row.off ∷ Row.off ∷ Row.off ∷ Row.off ∷ Row.off ∷ Row.off ∷ Row.off ∷ Row.dead ∷ []) (on 8 r5 G77)
 
       abbrev Δ0 : Typed.Outs
-      Δ0 = record { next = Option.none; exits = []; returns = Option.some G1 }
+      Δ0 = record { next = Option.none; exits = []; returns = Option.some (lives z0 T1) }
 
       abbrev Δ1 : Typed.Outs
       Δ1 = Typed.withNext (Option.some G18) Δ0
@@ -991,201 +886,148 @@ module _ (cl : Claims) where
         gone : (τ : Y.Ty) → Reads'.ToRoom U H A (Rows.any-gone τ) τ
         gone = Reads'.room-gone U H A
 
-        d3 : Typed.Typed U H A C E (lives z0 T25) b8 Δ1 at3
-        d3 = pre (room 1 Session′.mir (Local.room-whole U H A W (Declared.row Session.the-type) Session′.mir refl)) (pre (room 11 Piece′.mir (Local.room-whole U H A W (Declared.row
-            Piece.the-type) Piece′.mir refl)) (pre (room 9 Y.tyBool (Scalar.room-sc U H A W Row.sBool)) (Typed.t-return U H A W C E Δ1 tt)))
+        d3 : Typed.Typed U H A C E (lives z0 T23) b7 Δ1 at3
+        d3 = pre (room 1 Session′.mir (Local.room-whole U H A W (Declared.row Session.the-type) Session′.mir refl)) (pre (room 10 Record′.mir (Local.room-whole U H A W (Declared.row
+            Record.the-type) Record′.mir refl)) (pre (room 9 Y.tyBool (Scalar.room-sc U H A W Row.sBool)) (Typed.t-return U H A W C E Δ1 tt)))
 
-        d6 : Typed.Typed U H A C E G21 b9 Δ1 at6
-        d6 = pre (room 10 Record′.mir (Local.room-whole U H A W (Declared.row Record.the-type) Record′.mir refl)) (pre (room 20 Y.tyBool (Scalar.room-sc U H A W Row.sBool)) (seq
-            (Plain.t-call-plain U H A W C 0 ps·1 r·1 (cl .2) (cl .3) "session_main::stopped" (known .1) E (λ pos β. β) _
-            (record { pos = 1; st = []; d = 0; at = λ x. x }, (record { pos = 11; st = []; d = 0; at = λ x. x }, tt)) 0 [] (Call.sub-id U H A W _)
-            ((copied (Declared.row Session.the-type) refl (Copies.cStruct Session.the-type Session′.the-laws Session′.the-copy .copy U H A W), refl), ((copied (Declared.row Piece.the-type) refl (Copies.cStruct Piece.the-type Piece′.the-laws Piece′.the-copy .copy U H A W), refl), tt))
-            (gone After′.mir) tt refl) d3))
+        d5 : Typed.Typed U H A C E G20 b8 Δ1 at5
+        d5 = pre (room 17 Y.tyBool (Scalar.room-sc U H A W Row.sBool)) (seq (Plain.t-call-plain U H A W C 0 ps·1 r·1 (cl .2) (cl .3) "session_main::stopped" (known .1) E (λ pos β. β) _
+            (record { pos = 1; st = []; d = 0; at = λ x. x }, (record { pos = 10; st = []; d = 0; at = λ x. x }, tt)) 0 [] (Call.sub-id U H A W _)
+            ((copied (Declared.row Session.the-type) refl (Copies.cStruct Session.the-type Session′.the-laws Session′.the-copy .copy U H A W), refl), ((copied (Declared.row Record.the-type) refl (Copies.cStruct Record.the-type Record′.the-laws Record′.the-copy .copy U H A W), refl), tt))
+            (gone After′.mir) tt refl) d3)
 
-        d9 : Typed.Typed U H A C E G21 b10 Δ1 at9
-        d9 = pre (room 11 Piece′.mir (Local.room-whole U H A W (Declared.row Piece.the-type) Piece′.mir refl)) (pre (room 20 Y.tyBool (Scalar.room-sc U H A W Row.sBool)) (Typed.t-skip U H A
-            W C E Δ1 tt))
+        d7 : Typed.Typed U H A C E G20 b9 Δ1 at7
+        d7 = pre (room 17 Y.tyBool (Scalar.room-sc U H A W Row.sBool)) (Typed.t-skip U H A W C E Δ1 tt)
 
-        d10 : Typed.Typed U H A C E G21 b11 Δ1 at10
-        d10 = Scalar.t-cond U H A W E C _ 20 (λ x. x) b9 b10 Δ1 at6 at9 (Scalar.reads-sc U H A W Row.sBool) refl d6 d9
+        d8 : Typed.Typed U H A C E G20 b10 Δ1 at8
+        d8 = Scalar.t-cond U H A W E C _ 17 (λ x. x) b8 b9 Δ1 at5 at7 (Scalar.reads-sc U H A W Row.sBool) refl d5 d7
 
-        d18 : Typed.Typed U H A C E (life 16 Row.dead (on 15 r45 (on 14 r41 (on 13 r46 G67)))) b30 Δ0 at18
-        d18 = pre (forget 16 Row.dead refl) (seq (Make.t-make-told U H A W E C (Declared.row (Apart.apartT After.the-type)) refl (Laws'7.val (Apart.apartT After.the-type) After′.the-laws)
-            (Laws'7.lawful (Apart.apartT After.the-type) After′.the-laws U H A W) (Laws'7.makes (Apart.apartT After.the-type) After′.the-plain U H A) _ 0 (Scalar.oAt 14 Session′.mir
-            (Laws'7.val Session.the-type Session′.the-laws) ∷ Scalar.oFld 15 (Y.field 0 ∷ []) Y.tyBool 0 (Reads.fieldV Told.the-type Told′.the-laws 0) ∷ Scalar.oFld 15 (Y.field 1 ∷ [])
-            (Y.tyInt Y.w64) 8 (Reads.fieldV Told.the-type Told′.the-laws 1) ∷ []) (λ m.
-            (m .1 .1 .1 .1 .1 .1 .1 .1 .1 .1 .1 .1 .1 .1 .0, (Told.struct .as-values (m .1 .1 .1 .1 .1 .1 .1 .1 .1 .1 .1 .1 .1 .1 .1 .0) .0, (Told.struct .as-values (m .1 .1 .1 .1 .1 .1 .1 .1 .1 .1 .1 .1 .1 .1 .1 .0) .1 .0, tt))))
-            (λ m. Laws'6.Is (Declared.row Session.the-type) (m .1 .1 .1 .1 .1 .1 .1 .1 .1 .1 .1 .1 .1 .1 .0) (Laws'7.vals Session.the-type Session′.the-laws (m .1 .1 .1 .1 .1 .1 .1 .1 .1 .1
-            .1 .1 .1 .1 .0))) (gone After′.mir)
-            ((Reads.reads-struct U H A W Session.the-type Session′.the-laws, refl), ((Reads.reads-field U H A W Told.the-type Told′.the-laws 0 Y.tyBool 0 refl, refl), ((Reads.reads-field U H A W Told.the-type Told′.the-laws 1 (Y.tyInt Y.w64) 8 refl, refl), tt)))
-            refl (λ ρ m. Make.tells-row U H A W E ρ (Row.out 0 ((lives z0 T85) .locals)) m 14 (Laws'6.Is (Declared.row Session.the-type) (m .1 .1 .1 .1 .1 .1 .1 .1 .1 .1 .1 .1 .1 .1 .0)
-            (Laws'7.vals Session.the-type Session′.the-laws (m .1 .1 .1 .1 .1 .1 .1 .1 .1 .1 .1 .1 .1 .1 .0))) (Make.whole-is U H A W E (Declared.row Session.the-type) refl (Laws'7.val
-            Session.the-type Session′.the-laws) (Laws'7.tells Session.the-type Session′.the-laws) ρ 14 (m .1 .1 .1 .1 .1 .1 .1 .1 .1 .1 .1 .1 .1 .1 .0))) (λ m q. Signed.made-val
-            (Apart.apartT After.the-type) After′.the-laws (Laws'7.val Session.the-type Session′.the-laws (m .1 .1 .1 .1 .1 .1 .1 .1 .1 .1 .1 .1 .1 .1 .0) ∷ After′.the-laws .1 .0 .val
-            (Told.struct .as-values (m .1 .1 .1 .1 .1 .1 .1 .1 .1 .1 .1 .1 .1 .1 .1 .0) .0) ∷ After′.the-laws .1 .1 .0 .val (Told.struct .as-values (m .1 .1 .1 .1 .1 .1 .1 .1 .1 .1 .1 .1 .1
-            .1 .1 .0) .1 .0) ∷ [])
-            (m .1 .1 .1 .1 .1 .1 .1 .1 .1 .1 .1 .1 .1 .1 .0, (Told.struct .as-values (m .1 .1 .1 .1 .1 .1 .1 .1 .1 .1 .1 .1 .1 .1 .1 .0) .0, (Told.struct .as-values (m .1 .1 .1 .1 .1 .1 .1 .1 .1 .1 .1 .1 .1 .1 .1 .0) .1 .0, tt)))
-            (Signed.made-struct Session.the-type Session′.the-laws Session′.lowers (m .1 .1 .1 .1 .1 .1 .1 .1 .1 .1 .1 .1 .1 .1 .0) q, (Signed.made-wt Field.bool-field (After′.the-laws .1 .0) Make.bool-wt (Told.struct .as-values (m .1 .1 .1 .1 .1 .1 .1 .1 .1 .1 .1 .1 .1 .1 .1 .0) .0), (Signed.made-wt Field.u64-field (After′.the-laws .1 .1 .0) Make.u64-wt (Told.struct .as-values (m .1 .1 .1 .1 .1 .1 .1 .1 .1 .1 .1 .1 .1 .1 .1 .0) .1 .0), tt))))
-            λ m q. Signed.made-is (Apart.apartT After.the-type) After′.the-laws (Laws'7.val Session.the-type Session′.the-laws (m .1 .1 .1 .1 .1 .1 .1 .1 .1 .1 .1 .1 .1 .1 .0) ∷
-            After′.the-laws .1 .0 .val (Told.struct .as-values (m .1 .1 .1 .1 .1 .1 .1 .1 .1 .1 .1 .1 .1 .1 .1 .0) .0) ∷ After′.the-laws .1 .1 .0 .val (Told.struct .as-values (m .1 .1 .1 .1
-            .1 .1 .1 .1 .1 .1 .1 .1 .1 .1 .1 .0) .1 .0) ∷ [])
-            (m .1 .1 .1 .1 .1 .1 .1 .1 .1 .1 .1 .1 .1 .1 .0, (Told.struct .as-values (m .1 .1 .1 .1 .1 .1 .1 .1 .1 .1 .1 .1 .1 .1 .1 .0) .0, (Told.struct .as-values (m .1 .1 .1 .1 .1 .1 .1 .1 .1 .1 .1 .1 .1 .1 .1 .0) .1 .0, tt)))
-            (Signed.made-struct Session.the-type Session′.the-laws Session′.lowers (m .1 .1 .1 .1 .1 .1 .1 .1 .1 .1 .1 .1 .1 .1 .0) q, (Signed.made-wt Field.bool-field (After′.the-laws .1 .0) Make.bool-wt (Told.struct .as-values (m .1 .1 .1 .1 .1 .1 .1 .1 .1 .1 .1 .1 .1 .1 .1 .0) .0), (Signed.made-wt Field.u64-field (After′.the-laws .1 .1 .0) Make.u64-wt (Told.struct .as-values (m .1 .1 .1 .1 .1 .1 .1 .1 .1 .1 .1 .1 .1 .1 .1 .0) .1 .0), tt))))
-            (pre (room 12 (Y.tyInt Y.w64) (Scalar.room-sc U H A W (Row.sInt Y.w64))) (pre (room 14 Session′.mir (Local.room-whole U H A W (Declared.row Session.the-type) Session′.mir refl))
-            (pre (room 15 Told′.mir (Local.room-whole U H A W (Declared.row Told.the-type) Told′.mir refl)) (pre (room 9 Y.tyBool (Scalar.room-sc U H A W Row.sBool)) (pre (AtSlots.g-as-by U
-            H A W E (λ ρ. Unit) _ 0 r43 (λ v. After.struct .make v tt) (Own.told-none U H A ((on 0 r31 G1) .slots)) λ ρ told v b. Apart.folds U H A After.the-type (After.struct .Ghost)
-            (After.struct .make) (λ v g. refl) ρ v tt b) (Typed.t-return U H A W C E Δ0 tt)))))))
+        d16 : Typed.Typed U H A C E G77 b7 Δ0 at16
+        d16 = pre (end 15 refl) (pre (LendAt.g-way-back-shr U H A W E (Frozen.fz-open Y.erased 6 (κs .1 .1 .1 .1 .1 .1 .0) l6 (LendAt.fz-shr (Array.Array L.u8 66048) 15)) (LendAt.as-was-open
+            Y.erased 6 (κs .1 .1 .1 .1 .1 .1 .0) l6 (LendAt.fz-shr (Array.Array L.u8 66048) 15) (LendAt.as-was-shr (Array.Array L.u8 66048) 15)) _ 8 r5 (Row.setLife 6 l6 (G78 .slots)) (λ x.
+            x) (λ x. x) (as-is (Frozen.held (Frozen.fz-open Y.erased 6 (κs .1 .1 .1 .1 .1 .1 .0) l6 (LendAt.fz-shr (Array.Array L.u8 66048) 15)))) refl (WayLend.puts-open U H A Y.erased 6
+            (κs .1 .1 .1 .1 .1 .1 .0) l6 (LendAt.fz-shr (Array.Array L.u8 66048) 15) (G78 .slots) (G78 .slots) (Row.setLife 6 l6 (G78 .slots)) (LendAt.puts-none-shr U H A (Array.Array L.u8
+            66048) 15 (G78 .slots)) (Open.puts-whole U H A W 6 l6 (G78 .slots) refl)) λ ρ pins. Local.mref-mem U H A W Y.erased (κs .1 .1 .1 .1 .1 .1 .0) (Array.Array L.u8 66048) 6 y1 refl ρ
+            (pins .0)) (pre (forget 15 Row.dead refl) (pre (end 16 refl) (pre (LendAt.g-way-back-shr U H A W E (Frozen.fz-open Y.erased 5 (κs .1 .1 .1 .1 .1 .0) l5 (LendAt.fz-shr
+            (Array.Array L.u64 6912) 16)) (LendAt.as-was-open Y.erased 5 (κs .1 .1 .1 .1 .1 .0) l5 (LendAt.fz-shr (Array.Array L.u64 6912) 16) (LendAt.as-was-shr (Array.Array L.u64 6912)
+            16)) _ 7 r4 (Row.setLife 5 l5 (G81 .slots)) (λ x. x) (λ x. x) (as-is (Frozen.held (Frozen.fz-open Y.erased 5 (κs .1 .1 .1 .1 .1 .0) l5 (LendAt.fz-shr (Array.Array L.u64 6912)
+            16)))) refl (WayLend.puts-open U H A Y.erased 5 (κs .1 .1 .1 .1 .1 .0) l5 (LendAt.fz-shr (Array.Array L.u64 6912) 16) (G81 .slots) (G81 .slots) (Row.setLife 5 l5 (G81 .slots))
+            (LendAt.puts-none-shr U H A (Array.Array L.u64 6912) 16 (G81 .slots)) (Open.puts-whole U H A W 5 l5 (G81 .slots) refl)) λ ρ pins. Local.mref-mem U H A W Y.erased (κs .1 .1 .1 .1
+            .1 .0) (Array.Array L.u64 6912) 5 y0 refl ρ (pins .0)) (pre (forget 16 Row.dead refl) (pre (room 9 Y.tyBool (Scalar.room-sc U H A W Row.sBool)) (Typed.t-return U H A W C E Δ0
+            tt)))))))
 
-        d26 : Typed.Typed U H A C E G77 b30 Δ0 at26
-        d26 = pre (room 30 y9 (Shared.room-sslice U H A W L.u8 y15 15)) (pre (room 32 y8 (Shared.room-sslice U H A W L.u64 y13 16)) (pre (room 13 Answered′.mir (Local.room-whole U H A W
-            (Declared.row Answered.the-type) Answered′.mir refl)) (pre (end 15 refl) (pre (LendAt.g-way-back-shr U H A W E (Frozen.fz-open Y.erased 6 (κs .1 .1 .1 .1 .1 .1 .0) l6
-            (LendAt.fz-shr (Array.Array L.u8 66048) 15)) (LendAt.as-was-open Y.erased 6 (κs .1 .1 .1 .1 .1 .1 .0) l6 (LendAt.fz-shr (Array.Array L.u8 66048) 15) (LendAt.as-was-shr
-            (Array.Array L.u8 66048) 15)) _ 8 r5 (Row.setLife 6 l6 (G81 .slots)) (λ x. x) (λ x. x) (as-is (Frozen.held (Frozen.fz-open Y.erased 6 (κs .1 .1 .1 .1 .1 .1 .0) l6 (LendAt.fz-shr
-            (Array.Array L.u8 66048) 15)))) refl (WayLend.puts-open U H A Y.erased 6 (κs .1 .1 .1 .1 .1 .1 .0) l6 (LendAt.fz-shr (Array.Array L.u8 66048) 15) (G81 .slots) (G81 .slots)
-            (Row.setLife 6 l6 (G81 .slots)) (LendAt.puts-none-shr U H A (Array.Array L.u8 66048) 15 (G81 .slots)) (Open.puts-whole U H A W 6 l6 (G81 .slots) refl)) λ ρ pins. Local.mref-mem U
-            H A W Y.erased (κs .1 .1 .1 .1 .1 .1 .0) (Array.Array L.u8 66048) 6 y1 refl ρ (pins .0)) (pre (forget 15 Row.dead refl) (pre (end 16 refl) (pre (LendAt.g-way-back-shr U H A W E
-            (Frozen.fz-open Y.erased 5 (κs .1 .1 .1 .1 .1 .0) l5 (LendAt.fz-shr (Array.Array L.u64 6912) 16)) (LendAt.as-was-open Y.erased 5 (κs .1 .1 .1 .1 .1 .0) l5 (LendAt.fz-shr
-            (Array.Array L.u64 6912) 16) (LendAt.as-was-shr (Array.Array L.u64 6912) 16)) _ 7 r4 (Row.setLife 5 l5 (G84 .slots)) (λ x. x) (λ x. x) (as-is (Frozen.held (Frozen.fz-open
-            Y.erased 5 (κs .1 .1 .1 .1 .1 .0) l5 (LendAt.fz-shr (Array.Array L.u64 6912) 16)))) refl (WayLend.puts-open U H A Y.erased 5 (κs .1 .1 .1 .1 .1 .0) l5 (LendAt.fz-shr (Array.Array
-            L.u64 6912) 16) (G84 .slots) (G84 .slots) (Row.setLife 5 l5 (G84 .slots)) (LendAt.puts-none-shr U H A (Array.Array L.u64 6912) 16 (G84 .slots)) (Open.puts-whole U H A W 5 l5 (G84
-            .slots) refl)) λ ρ pins. Local.mref-mem U H A W Y.erased (κs .1 .1 .1 .1 .1 .0) (Array.Array L.u64 6912) 5 y0 refl ρ (pins .0)) d18)))))))
+        d20 : Typed.Typed U H A C E G73 b7 Δ0 at20
+        d20 = pre (room 27 y9 (Shared.room-sslice U H A W L.u8 y15 15)) (pre (room 29 y8 (Shared.room-sslice U H A W L.u64 y13 16)) (pre (room 11 (Y.tyInt Y.w64) (Scalar.room-sc U H A W
+            (Row.sInt Y.w64))) (pre (room 12 Answered′.mir (Local.room-whole U H A W (Declared.row Answered.the-type) Answered′.mir refl)) d16)))
 
-        d34 : Typed.Typed U H A C E G69 b35 Δ0 at34
-        d34 = seq (LendAt.t-way-share U H A W E C (Array.Array L.u8 66048) (λ ρ. Path'._≡_ (Row.lft ρ 6) (κs .1 .1 .1 .1 .1 .1 .0)) _ (Row.out 8 (G69 .locals)) (λ u. Row.drop 8 (G69 .locals)
-            u) (Row.setLife 6 Row.off (G69 .slots)) 8 (λ t. Y.deref (Y.tyInt Y.w8) ∷ t) (Y.tyInt Y.w8) y15 29 15 (λ u. u .1 .1 .1 .1 .1 .1 .1 .1 .0 .now) (λ u. u .1 .1 .1 .1 .1 .1 .1 .1 .0
+        d28 : Typed.Typed U H A C E G65 b31 Δ0 at28
+        d28 = seq (LendAt.t-way-share U H A W E C (Array.Array L.u8 66048) (λ ρ. Path'._≡_ (Row.lft ρ 6) (κs .1 .1 .1 .1 .1 .1 .0)) _ (Row.out 8 (G65 .locals)) (λ u. Row.drop 8 (G65 .locals)
+            u) (Row.setLife 6 Row.off (G65 .slots)) 8 (λ t. Y.deref (Y.tyInt Y.w8) ∷ t) (Y.tyInt Y.w8) y15 26 15 (λ u. u .1 .1 .1 .1 .1 .1 .1 .1 .0 .now) (λ u. u .1 .1 .1 .1 .1 .1 .1 .1 .0
             .ptr) (λ T′. record
-            { locals = Row.setRow 8 (8, Frozen.held (Frozen.fz-open Y.erased 6 (κs .1 .1 .1 .1 .1 .1 .0) l6 (LendAt.fz-shr (Array.Array L.u8 66048) 15))) T′; slots = Row.setLife 6 Row.off (G69 .slots) })
+            { locals = Row.setRow 8 (8, Frozen.held (Frozen.fz-open Y.erased 6 (κs .1 .1 .1 .1 .1 .1 .0) l6 (LendAt.fz-shr (Array.Array L.u8 66048) 15))) T′; slots = Row.setLife 6 Row.off (G65 .slots) })
             (λ u γ T′ m′. Row.set 8 (8, Frozen.held (Frozen.fz-open Y.erased 6 (κs .1 .1 .1 .1 .1 .1 .0) l6 (LendAt.fz-shr (Array.Array L.u8 66048) 15))) (u .1 .1 .1 .1 .1 .1 .1 .1 .0, γ) T′
-            m′) (λ u. Unit) (Call.pin-lease U H A W 6 (G69 .slots) (κs .1 .1 .1 .1 .1 .1 .0) (qs .1 .1 .1 .1 .1 .1 .0) refl) (λ ρ told u asked. WayLend.wt-mut U H A W E Y.erased 6 (κs .1 .1
+            m′) (λ u. Unit) (Call.pin-lease U H A W 6 (G65 .slots) (κs .1 .1 .1 .1 .1 .1 .0) (qs .1 .1 .1 .1 .1 .1 .0) refl) (λ ρ told u asked. WayLend.wt-mut U H A W E Y.erased 6 (κs .1 .1
             .1 .1 .1 .1 .0) l6 (LendAt.fz-shr (Array.Array L.u8 66048) 15) y1 (Y.tyInt Y.w8) (u .1 .1 .1 .1 .1 .1 .1 .1 .0) (Wp.spotOf U H E 8 .1, 0) (WayLend.wt-mref U H A W E Y.erased (κs
             .1 .1 .1 .1 .1 .1 .0) (Array.Array L.u8 66048) 6 y1 (Frozen.fz-open Y.erased 6 (κs .1 .1 .1 .1 .1 .1 .0) l6 (LendAt.fz-shr (Array.Array L.u8 66048) 15)) refl _ ρ u (Row.setLife 6
-            Row.off (G69 .slots)) 8 (λ x. x) told (as-is r5)) refl (Row.setLife 6 Row.off (G69 .slots)) (Open.takes-whole U H A W 6 (G69 .slots) l6 refl tt) told) (gone y15) refl λ b o. tt)
-            (pre (AsSlice.g-sref-as-slice U H A W E _ 29 15 L.u8 tt 66048 (Dec'.lit< tt, Dec'.lit< tt) (Copies.halves U H A W (Copies.cArr L.u8 (Copies.cRf (Referent.fInt Y.w8)) 66048)) y15
-            Row.alive (λ x. x) (as-is (Rows.sref (Array.Array L.u8 66048) y15 15)) refl tt) (seq (Relend.t-sl-aggregate U H A W E L.u8 C (Relend.asShr L.u8) _ 29 30 15 y15 y15 (λ x. x)
+            Row.off (G65 .slots)) 8 (λ x. x) told (as-is r5)) refl (Row.setLife 6 Row.off (G65 .slots)) (Open.takes-whole U H A W 6 (G65 .slots) l6 refl tt) told) (gone y15) refl λ b o. tt)
+            (pre (AsSlice.g-sref-as-slice U H A W E _ 26 15 L.u8 tt 66048 (Dec'.lit< tt, Dec'.lit< tt) (Copies.halves U H A W (Copies.cArr L.u8 (Copies.cRf (Referent.fInt Y.w8)) 66048)) y15
+            Row.alive (λ x. x) (as-is (Rows.sref (Array.Array L.u8 66048) y15 15)) refl tt) (seq (Relend.t-sl-aggregate U H A W E L.u8 C (Relend.asShr L.u8) _ 26 27 15 y15 y15 (λ x. x)
             (Scalar.oBig Y.w64 66048) (as-is (Relend.ssptr L.u8 y15 15)) (gone y9) record { lower = record { fits = Dec'.lit< tt } } refl refl λ b o k. tt) (pre (begin 16 _) (seq
-            (LendAt.t-way-share U H A W E C (Array.Array L.u64 6912) (λ ρ. Path'._≡_ (Row.lft ρ 5) (κs .1 .1 .1 .1 .1 .0)) _ (Row.out 7 (G73 .locals)) (λ u. Row.drop 7 (G73 .locals) u)
-            (Row.setLife 5 Row.off (G73 .slots)) 7 (λ t. Y.deref (Y.tyInt Y.w64) ∷ t) (Y.tyInt Y.w64) y13 31 16 (λ u. u .1 .1 .1 .1 .1 .1 .1 .0 .now) (λ u. u .1 .1 .1 .1 .1 .1 .1 .0 .ptr) (λ
+            (LendAt.t-way-share U H A W E C (Array.Array L.u64 6912) (λ ρ. Path'._≡_ (Row.lft ρ 5) (κs .1 .1 .1 .1 .1 .0)) _ (Row.out 7 (G69 .locals)) (λ u. Row.drop 7 (G69 .locals) u)
+            (Row.setLife 5 Row.off (G69 .slots)) 7 (λ t. Y.deref (Y.tyInt Y.w64) ∷ t) (Y.tyInt Y.w64) y13 28 16 (λ u. u .1 .1 .1 .1 .1 .1 .1 .0 .now) (λ u. u .1 .1 .1 .1 .1 .1 .1 .0 .ptr) (λ
             T′. record
-            { locals = Row.setRow 7 (7, Frozen.held (Frozen.fz-open Y.erased 5 (κs .1 .1 .1 .1 .1 .0) l5 (LendAt.fz-shr (Array.Array L.u64 6912) 16))) T′; slots = Row.setLife 5 Row.off (G73 .slots) })
+            { locals = Row.setRow 7 (7, Frozen.held (Frozen.fz-open Y.erased 5 (κs .1 .1 .1 .1 .1 .0) l5 (LendAt.fz-shr (Array.Array L.u64 6912) 16))) T′; slots = Row.setLife 5 Row.off (G69 .slots) })
             (λ u γ T′ m′. Row.set 7 (7, Frozen.held (Frozen.fz-open Y.erased 5 (κs .1 .1 .1 .1 .1 .0) l5 (LendAt.fz-shr (Array.Array L.u64 6912) 16))) (u .1 .1 .1 .1 .1 .1 .1 .0, γ) T′ m′)
-            (λ u. Unit) (Call.pin-lease U H A W 5 (G73 .slots) (κs .1 .1 .1 .1 .1 .0) (qs .1 .1 .1 .1 .1 .0) refl) (λ ρ told u asked. WayLend.wt-mut U H A W E Y.erased 5 (κs .1 .1 .1 .1 .1
+            (λ u. Unit) (Call.pin-lease U H A W 5 (G69 .slots) (κs .1 .1 .1 .1 .1 .0) (qs .1 .1 .1 .1 .1 .0) refl) (λ ρ told u asked. WayLend.wt-mut U H A W E Y.erased 5 (κs .1 .1 .1 .1 .1
             .0) l5 (LendAt.fz-shr (Array.Array L.u64 6912) 16) y0 (Y.tyInt Y.w64) (u .1 .1 .1 .1 .1 .1 .1 .0) (Wp.spotOf U H E 7 .1, 0) (WayLend.wt-mref U H A W E Y.erased (κs .1 .1 .1 .1 .1
-            .0) (Array.Array L.u64 6912) 5 y0 (Frozen.fz-open Y.erased 5 (κs .1 .1 .1 .1 .1 .0) l5 (LendAt.fz-shr (Array.Array L.u64 6912) 16)) refl _ ρ u (Row.setLife 5 Row.off (G73
-            .slots)) 7 (λ x. x) told (as-is r4)) refl (Row.setLife 5 Row.off (G73 .slots)) (Open.takes-whole U H A W 5 (G73 .slots) l5 refl tt) told) (gone y13) refl λ b o. tt) (pre
-            (AsSlice.g-sref-as-slice U H A W E _ 31 16 L.u64 tt 6912 (Dec'.lit< tt, Dec'.lit< tt) (Copies.halves U H A W (Copies.cArr L.u64 (Copies.cRf (Referent.fInt Y.w64)) 6912)) y13
-            Row.alive (λ x. x) (as-is (Rows.sref (Array.Array L.u64 6912) y13 16)) refl tt) (seq (Relend.t-sl-aggregate U H A W E L.u64 C (Relend.asShr L.u64) _ 31 32 16 y13 y13 (λ x. x)
+            .0) (Array.Array L.u64 6912) 5 y0 (Frozen.fz-open Y.erased 5 (κs .1 .1 .1 .1 .1 .0) l5 (LendAt.fz-shr (Array.Array L.u64 6912) 16)) refl _ ρ u (Row.setLife 5 Row.off (G69
+            .slots)) 7 (λ x. x) told (as-is r4)) refl (Row.setLife 5 Row.off (G69 .slots)) (Open.takes-whole U H A W 5 (G69 .slots) l5 refl tt) told) (gone y13) refl λ b o. tt) (pre
+            (AsSlice.g-sref-as-slice U H A W E _ 28 16 L.u64 tt 6912 (Dec'.lit< tt, Dec'.lit< tt) (Copies.halves U H A W (Copies.cArr L.u64 (Copies.cRf (Referent.fInt Y.w64)) 6912)) y13
+            Row.alive (λ x. x) (as-is (Rows.sref (Array.Array L.u64 6912) y13 16)) refl tt) (seq (Relend.t-sl-aggregate U H A W E L.u64 C (Relend.asShr L.u64) _ 28 29 16 y13 y13 (λ x. x)
             (Scalar.oBig Y.w64 6912) (as-is (Relend.ssptr L.u64 y13 16)) (gone y8) record { lower = record { fits = Dec'.lit< tt } } refl refl λ b o k. tt) (seq (Plain.t-call-plain U H A W C
             2 ps·3 r·3 (cl .6) (cl .7) "session_main::tell_all" (known .3) E (λ pos β. β) _
-            (Bool.bAt 9 λ x. x, (record { pos = 30; ty = y15; ref = λ x. x }, (Num.vFld 13 (Y.field 1 ∷ []) 88 λ x. Answered.struct .as-values x .1 .0, (record { pos = 32; ty = y13; ref = λ x. x }, tt))))
-            15 (15 ∷ 16 ∷ []) (Call.sub-id U H A W _)
-            ((Scalar.reads-sc U H A W Row.sBool, refl), (ShrSlice.spares-sslice U H A W L.u8 y15 15, Shared.reads-sslice U H A W L.u8 y15 15, refl, ((Reads.reads-field U H A W Answered.the-type Answered′.the-laws 1 (Y.tyInt Y.w64) 88 refl, refl), (ShrSlice.spares-sslice U H A W L.u64 y13 16, Shared.reads-sslice U H A W L.u64 y13 16, refl, tt))))
-            (gone Told′.mir) (tt, (tt, tt)) refl) d26)))))))
+            (Bool.bAt 9 λ x. x, (record { pos = 12; st = []; d = 0; at = λ x. x }, (record { pos = 27; ty = y15; ref = λ x. x }, (record { pos = 29; ty = y13; ref = λ x. x }, tt)))) 0 (15 ∷
+            16 ∷ []) (Call.sub-id U H A W _)
+            ((Scalar.reads-sc U H A W Row.sBool, refl), ((copied (Declared.row Answered.the-type) refl (Copies.cStruct Answered.the-type Answered′.the-laws Answered′.the-copy .copy U H A W), refl), (ShrSlice.spares-sslice U H A W L.u8 y15 15, Shared.reads-sslice U H A W L.u8 y15 15, refl, (ShrSlice.spares-sslice U H A W L.u64 y13 16, Shared.reads-sslice U H A W L.u64 y13 16, refl, tt))))
+            (gone After′.mir) (tt, (tt, tt)) refl) d20)))))))
 
-        d42 : Typed.Typed U H A C E (lives (l0 ∷ l1 ∷ l2 ∷ l3 ∷ l4 ∷ Row.off ∷ Row.off ∷ Row.off ∷ Row.off ∷ Row.off ∷ Row.off ∷ Row.off ∷ Row.off ∷ Row.alive ∷ Row.alive ∷ Row.off ∷ Row.off
-            ∷ []) (on 26 r22 (on 23 r35 (on 6 r7 (on 5 r24 (on 3 r32 G53)))))) b36 Δ0 at42
-        d42 = pre (end 13 refl) (pre (Reborrow.g-back-mref U H A W E _ 27 7 5 13 (Array.Array L.u64 6912) y0 y5 l5 (λ x. x) (λ x. x) (as-is r10) (as-is (Rows.mref-owed (Array.Array L.u64
-            6912) y0 5 13 l5)) refl refl) (pre (forget 13 Row.dead refl) (pre (end 14 refl) (pre (Reborrow.g-back-mref U H A W E _ 28 8 6 14 (Array.Array L.u8 66048) y1 y4 l6 (λ x. x) (λ x.
-            x) (as-is r11) (as-is (Rows.mref-owed (Array.Array L.u8 66048) y1 6 14 l6)) refl refl) (pre (forget 14 Row.dead refl) (seq (WayStmt.t-way-copy-out U H A W E C (Declared.row
-            Session.the-type) refl (Copies.cStruct Session.the-type Session′.the-laws Session′.the-copy .copy U H A W) (λ ρ. Unit) _ (Row.out 13 (G67 .locals)) (λ u. Row.drop 13 (G67
-            .locals) u) (G67 .slots) 13 (λ t. Y.field 0 ∷ t) Session′.mir Session′.mir 14 r41 (λ x. x) (λ u. At.getAt (Answered.the-type .parts) 0 (Answered.struct .as-values (u .1 .1 .1 .1
-            .1 .1 .1 .1 .1 .1 .1 .1 .1 .0))) (λ u. (Row.rd 0 13 bs, Nat._+_ 0 0)) (λ T′. record { locals = Row.setRow 13 (13, r40) T′; slots = G67 .slots }) (λ u T′ m′. Row.set 13 (13, r40)
-            (u .1 .1 .1 .1 .1 .1 .1 .1 .1 .1 .1 .1 .1 .0) T′ m′) (λ u. Unit) (λ x. Unit) (Own.told-none U H A (G67 .slots)) (DerefMove.learns-nothing U H A (Declared.row Session.the-type))
-            (λ ρ told u asked. Way'.w-partˢ U H A W E (Declared.row Answered.the-type) (Declared.row Session.the-type) Answered′.mir Session′.mir 0 0 (u .1 .1 .1 .1 .1 .1 .1 .1 .1 .1 .1 .1
-            .1 .0) (At.getAt (Answered.the-type .parts) 0 (Answered.struct .as-values (u .1 .1 .1 .1 .1 .1 .1 .1 .1 .1 .1 .1 .1 .0))) (Row.rd 0 13 bs, 0) (Way.w-look U H A W E (Way.w-local U
-            H A W E _ ρ u (G67 .slots) 13 (Declared.row Answered.the-type) r40 (λ x. x) (λ x. x) (u .1 .1 .1 .1 .1 .1 .1 .1 .1 .1 .1 .1 .1 .0) (Local.mem-whole U H A W (Declared.row
-            Answered.the-type) ρ (u .1 .1 .1 .1 .1 .1 .1 .1 .1 .1 .1 .1 .1 .0) (Row.rd 0 13 bs)) (Local.whole-mem U H A W (Declared.row Answered.the-type) ρ (u .1 .1 .1 .1 .1 .1 .1 .1 .1 .1
-            .1 .1 .1 .0) (Row.rd 0 13 bs)))) refl λ q. Inner.cut-record U H A q (Declared.row Answered.the-type) Session.the-type 0 (u .1 .1 .1 .1 .1 .1 .1 .1 .1 .1 .1 .1 .1 .0) (u .1 .1 .1
-            .1 .1 .1 .1 .1 .1 .1 .1 .1 .1 .0) (At.getAt (Answered.the-type .parts) 0 (Answered.struct .as-values (u .1 .1 .1 .1 .1 .1 .1 .1 .1 .1 .1 .1 .1 .0))) (At.getAt (Answered.the-type
-            .parts) 0 (Answered.struct .as-values (u .1 .1 .1 .1 .1 .1 .1 .1 .1 .1 .1 .1 .1 .0))) (Row.rd 0 13 bs, 0) (Behind.look-at U H A W q Answered.the-type Answered′.the-laws 0 0 refl
-            refl (Row.rd 0 13 bs, 0) (u .1 .1 .1 .1 .1 .1 .1 .1 .1 .1 .1 .1 .1 .0) (Answered.struct .as-values (u .1 .1 .1 .1 .1 .1 .1 .1 .1 .1 .1 .1 .1 .0)) refl)) (gone Session′.mir)
-            (Yields.makes-mem U H A W (λ ρ. Unit) (Declared.row Session.the-type) refl r41 (λ x. x) λ ρ told. Local.whole-mem U H A W (Declared.row Session.the-type) ρ) refl refl refl) (pre
-            (begin 15 _) d34)))))))
+        d36 : Typed.Typed U H A C E (lives (l0 ∷ l1 ∷ l2 ∷ l3 ∷ l4 ∷ Row.off ∷ Row.off ∷ Row.off ∷ Row.off ∷ Row.off ∷ Row.off ∷ Row.off ∷ Row.dead ∷ Row.alive ∷ Row.alive ∷ Row.off ∷
+            Row.off ∷ []) (on 23 r22 (on 20 r38 (on 6 r7 (on 5 r26 (on 3 r35 G49)))))) b31 Δ0 at36
+        d36 = pre (forget 12 Row.dead refl) (pre (end 13 refl) (pre (Reborrow.g-back-mref U H A W E _ 24 7 5 13 (Array.Array L.u64 6912) y0 y5 l5 (λ x. x) (λ x. x) (as-is r10) (as-is
+            (Rows.mref-owed (Array.Array L.u64 6912) y0 5 13 l5)) refl refl) (pre (forget 13 Row.dead refl) (pre (end 14 refl) (pre (Reborrow.g-back-mref U H A W E _ 25 8 6 14 (Array.Array
+            L.u8 66048) y1 y4 l6 (λ x. x) (λ x. x) (as-is r11) (as-is (Rows.mref-owed (Array.Array L.u8 66048) y1 6 14 l6)) refl refl) (pre (forget 14 Row.dead refl) (pre (begin 15 _)
+            d28)))))))
 
-        d50 : Typed.Typed U H A C E G53 b36 Δ0 at50
-        d50 = pre (Relend.g-back-sl U H A W E S.row _ 23 3 1 10 y16 y17 l1 (λ x. x) (λ x. x) (as-is r38) (as-is (Relend.mslice-owed S.row y16 1 10 l1)) refl refl) (pre (forget 10 Row.dead
-            refl) (pre (end 11 refl) (pre (Reshare.g-back-sl-shrᵖ U H A W E L.u8 _ 5 3 11 y12 l3 (λ x. x) (as-is (Reshare.mslice-owedSᵖ L.u8 y12 3 11 l3)) refl refl) (pre (forget 11 Row.dead
-            refl) (pre (end 12 refl) (pre (Reborrow.g-back-mref U H A W E _ 26 6 4 12 (Array.Array L.u64 512) y3 y7 l4 (λ x. x) (λ x. x) (as-is r14) (as-is (Rows.mref-owed (Array.Array L.u64
-            512) y3 4 12 l4)) refl refl) (pre (forget 12 Row.dead refl) d42)))))))
+        d44 : Typed.Typed U H A C E G49 b31 Δ0 at44
+        d44 = pre (end 10 refl) (pre (Relend.g-back-sl U H A W E S.row _ 20 3 1 10 y16 y17 l1 (λ x. x) (λ x. x) (as-is r41) (as-is (Relend.mslice-owed S.row y16 1 10 l1)) refl refl) (pre
+            (forget 10 Row.dead refl) (pre (end 11 refl) (pre (Reshare.g-back-sl-shrᵖ U H A W E L.u8 _ 5 3 11 y12 l3 (λ x. x) (as-is (Reshare.mslice-owedSᵖ L.u8 y12 3 11 l3)) refl refl) (pre
+            (forget 11 Row.dead refl) (pre (end 12 refl) (pre (Reborrow.g-back-mref U H A W E _ 23 6 4 12 (Array.Array L.u64 512) y3 y7 l4 (λ x. x) (λ x. x) (as-is r14) (as-is
+            (Rows.mref-owed (Array.Array L.u64 512) y3 4 12 l4)) refl refl) d36)))))))
 
-        d56 : Typed.Typed U H A C E (lives (Row.off ∷ Row.off ∷ l2 ∷ Row.off ∷ Row.off ∷ Row.off ∷ Row.off ∷ Row.off ∷ Row.off ∷ Row.alive ∷ Row.alive ∷ Row.alive ∷ Row.alive ∷ Row.alive ∷
+        d49 : Typed.Typed U H A C E (lives (Row.off ∷ Row.off ∷ l2 ∷ Row.off ∷ Row.off ∷ Row.off ∷ Row.off ∷ Row.off ∷ Row.off ∷ Row.alive ∷ Row.alive ∷ Row.alive ∷ Row.alive ∷ Row.alive ∷
             Row.alive ∷ Row.off ∷ Row.off ∷ []) (on 8 (Rows.mref-owed (Array.Array L.u8 66048) y1 6 14 l6) (on 7 (Rows.mref-owed (Array.Array L.u64 6912) y0 5 13 l5) (on 6 (Rows.mref-owed
             (Array.Array L.u64 512) y3 4 12 l4) (on 5 (Reshare.mslice-owedSᵖ L.u8 y12 3 11 l3) (on 3 (Relend.mslice-owed S.row y16 1 10 l1) (on 2 (Rows.mref-owed (Array.Array L.u64 928) y2 0
-            9 l0) T47))))))) b36 Δ0 at56
-        d56 = pre (room 25 y9 (Shared.room-sslice U H A W L.u8 y15 11)) (pre (room 1 Session′.mir (Local.room-whole U H A W (Declared.row Session.the-type) Session′.mir refl)) (pre (end 9
-            refl) (pre (Reborrow.g-back-mref U H A W E _ 21 2 0 9 (Array.Array L.u64 928) y2 y6 l0 (λ x. x) (λ x. x) (as-is r13) (as-is (Rows.mref-owed (Array.Array L.u64 928) y2 0 9 l0))
-            refl refl) (pre (forget 9 Row.dead refl) (pre (end 10 refl) d50)))))
+            9 l0) T44))))))) b31 Δ0 at49
+        d49 = pre (room 22 y9 (Shared.room-sslice U H A W L.u8 y15 11)) (pre (room 1 Session′.mir (Local.room-whole U H A W (Declared.row Session.the-type) Session′.mir refl)) (pre (end 9
+            refl) (pre (Reborrow.g-back-mref U H A W E _ 18 2 0 9 (Array.Array L.u64 928) y2 y6 l0 (λ x. x) (λ x. x) (as-is r13) (as-is (Rows.mref-owed (Array.Array L.u64 928) y2 0 9 l0))
+            refl refl) (pre (forget 9 Row.dead refl) d44))))
 
-        d64 : Typed.Typed U H A C E (lives (Row.off ∷ Row.off ∷ l2 ∷ Row.off ∷ l4 ∷ l5 ∷ l6 ∷ Row.off ∷ Row.off ∷ Row.alive ∷ Row.alive ∷ Row.alive ∷ Row.off ∷ Row.off ∷ Row.off ∷ Row.off ∷
-            Row.off ∷ []) (on 5 (Reshare.mslice-owedSᵖ L.u8 y12 3 11 l3) (on 3 (Relend.mslice-owed S.row y16 1 10 l1) (on 2 (Rows.mref-owed (Array.Array L.u64 928) y2 0 9 l0) T39)))) b41 Δ0
-            at64
-        d64 = seq (Relend.t-sl-aggregate U H A W E L.u8 C (Relend.asShr L.u8) _ 24 25 11 y15 y15 (λ x. x) (Scalar.oAt 12 (Y.tyInt Y.w64) (Row.valS (Row.sInt Y.w64))) (as-is (Relend.ssptr
-            L.u8 y15 11)) (gone y9) (Scalar.reads-sc U H A W (Row.sInt Y.w64), refl) refl refl λ b o k. tt) (pre (begin 12 _) (seq (Reborrow.t-mref-relend U H A W E C _ 6 26 4 12
-            (Array.Array L.u64 512) y21 y3 y7 l4 (λ x. x) (as-is r7) (gone y7) refl tt refl refl λ b o. tt) (pre (begin 13 _) (seq (Reborrow.t-mref-relend U H A W E C _ 7 27 5 13
-            (Array.Array L.u64 6912) y18 y0 y5 l5 (λ x. x) (as-is r4) (gone y5) refl tt refl refl λ b o. tt) (pre (begin 14 _) (seq (Reborrow.t-mref-relend U H A W E C _ 8 28 6 14
+        d57 : Typed.Typed U H A C E (lives (Row.off ∷ Row.off ∷ l2 ∷ Row.off ∷ l4 ∷ l5 ∷ l6 ∷ Row.off ∷ Row.off ∷ Row.alive ∷ Row.alive ∷ Row.alive ∷ Row.off ∷ Row.off ∷ Row.off ∷ Row.off ∷
+            Row.off ∷ []) (on 5 (Reshare.mslice-owedSᵖ L.u8 y12 3 11 l3) (on 3 (Relend.mslice-owed S.row y16 1 10 l1) (on 2 (Rows.mref-owed (Array.Array L.u64 928) y2 0 9 l0) T36)))) b36 Δ0
+            at57
+        d57 = seq (Relend.t-sl-aggregate U H A W E L.u8 C (Relend.asShr L.u8) _ 21 22 11 y15 y15 (λ x. x) (Scalar.oAt 11 (Y.tyInt Y.w64) (Row.valS (Row.sInt Y.w64))) (as-is (Relend.ssptr
+            L.u8 y15 11)) (gone y9) (Scalar.reads-sc U H A W (Row.sInt Y.w64), refl) refl refl λ b o k. tt) (pre (begin 12 _) (seq (Reborrow.t-mref-relend U H A W E C _ 6 23 4 12
+            (Array.Array L.u64 512) y21 y3 y7 l4 (λ x. x) (as-is r7) (gone y7) refl tt refl refl λ b o. tt) (pre (begin 13 _) (seq (Reborrow.t-mref-relend U H A W E C _ 7 24 5 13
+            (Array.Array L.u64 6912) y18 y0 y5 l5 (λ x. x) (as-is r4) (gone y5) refl tt refl refl λ b o. tt) (pre (begin 14 _) (seq (Reborrow.t-mref-relend U H A W E C _ 8 25 6 14
             (Array.Array L.u8 66048) y19 y1 y4 l6 (λ x. x) (as-is r5) (gone y4) refl tt refl refl λ b o. tt) (seq (Plain.t-call-plain U H A W C 6 ps·2 r·2 (cl .4) (cl .5) "session::respond"
             (known .2) E (λ pos β. β) _
-            (record { pos = 1; st = []; d = 0; at = λ x. x }, (record { pos = 21; ty = y6; ref = λ x. x }, (record { pos = 23; ty = y17; ref = λ x. x }, (record { pos = 25; ty = y15; ref = λ x. x }, (record { pos = 26; ty = y7; ref = λ x. x }, (record { pos = 27; ty = y5; ref = λ x. x }, (record { pos = 28; ty = y4; ref = λ x. x }, tt)))))))
-            13 (9 ∷ 10 ∷ 11 ∷ 12 ∷ 13 ∷ 14 ∷ []) (Call.sub-id U H A W _)
-            ((copied (Declared.row Session.the-type) refl (Copies.cStruct Session.the-type Session′.the-laws Session′.the-copy .copy U H A W), refl), (as-is r12, Reads'.reads-mref U H A W (Array.Array L.u64 928) y6 9, refl, (as-is r37, Mut.reads-mslice U H A W S.row y17 10, refl, (ShrSlice.spares-sslice U H A W L.u8 y15 11, Shared.reads-sslice U H A W L.u8 y15 11, refl, (as-is r9, Reads'.reads-mref U H A W (Array.Array L.u64 512) y7 12, refl, (as-is r8, Reads'.reads-mref U H A W (Array.Array L.u64 6912) y5 13, refl, (as-is (Rows.mref (Array.Array L.u8 66048) y4 14), Reads'.reads-mref U H A W (Array.Array L.u8 66048) y4 14, refl, tt)))))))
-            (gone Answered′.mir) (tt, (tt, (tt, (tt, (tt, (tt, tt)))))) refl) d56)))))))
+            (record { pos = 1; st = []; d = 0; at = λ x. x }, (record { pos = 18; ty = y6; ref = λ x. x }, (record { pos = 20; ty = y17; ref = λ x. x }, (record { pos = 22; ty = y15; ref = λ x. x }, (record { pos = 23; ty = y7; ref = λ x. x }, (record { pos = 24; ty = y5; ref = λ x. x }, (record { pos = 25; ty = y4; ref = λ x. x }, tt)))))))
+            12 (9 ∷ 10 ∷ 11 ∷ 12 ∷ 13 ∷ 14 ∷ []) (Call.sub-id U H A W _)
+            ((copied (Declared.row Session.the-type) refl (Copies.cStruct Session.the-type Session′.the-laws Session′.the-copy .copy U H A W), refl), (as-is r12, Reads'.reads-mref U H A W (Array.Array L.u64 928) y6 9, refl, (as-is r40, Mut.reads-mslice U H A W S.row y17 10, refl, (ShrSlice.spares-sslice U H A W L.u8 y15 11, Shared.reads-sslice U H A W L.u8 y15 11, refl, (as-is r9, Reads'.reads-mref U H A W (Array.Array L.u64 512) y7 12, refl, (as-is r8, Reads'.reads-mref U H A W (Array.Array L.u64 6912) y5 13, refl, (as-is (Rows.mref (Array.Array L.u8 66048) y4 14), Reads'.reads-mref U H A W (Array.Array L.u8 66048) y4 14, refl, tt)))))))
+            (gone Answered′.mir) (tt, (tt, (tt, (tt, (tt, (tt, tt)))))) refl) d49)))))))
 
-        d72 : Typed.Typed U H A C E (lives z0 T31) b45 Δ0 at72
-        d72 = pre (room 10 Record′.mir (Local.room-whole U H A W (Declared.row Record.the-type) Record′.mir refl)) (pre (begin 9 _) (seq (Reborrow.t-mref-relend U H A W E C _ 2 21 0 9
-            (Array.Array L.u64 928) y20 y2 y6 l0 (λ x. x) (as-is r6) (gone y6) refl tt refl refl λ b o. tt) (pre (begin 10 _) (seq (Relend.t-sl-relend U H A W E S.row C _ 3 22 1 10 y16 y17
-            l1 0 (λ x. x) (as-is r32) (gone y17) refl tt refl refl refl λ b o. tt) (seq (Relend.t-sl-aggregate U H A W E S.row C (Relend.asMut S.row) _ 22 23 10 y17 y17 (λ x. x) (Scalar.oFld
+        d65 : Typed.Typed U H A C E G28 b40 Δ0 at65
+        d65 = pre (room 10 Record′.mir (Local.room-whole U H A W (Declared.row Record.the-type) Record′.mir refl)) (pre (begin 9 _) (seq (Reborrow.t-mref-relend U H A W E C _ 2 18 0 9
+            (Array.Array L.u64 928) y20 y2 y6 l0 (λ x. x) (as-is r6) (gone y6) refl tt refl refl λ b o. tt) (pre (begin 10 _) (seq (Relend.t-sl-relend U H A W E S.row C _ 3 19 1 10 y16 y17
+            l1 0 (λ x. x) (as-is r35) (gone y17) refl tt refl refl refl λ b o. tt) (seq (Relend.t-sl-aggregate U H A W E S.row C (Relend.asMut S.row) _ 19 20 10 y17 y17 (λ x. x) (Scalar.oFld
             3 (Y.field 1 ∷ []) (Y.tyInt Y.w64) 8 λ v. Shared.lenV (v .0)) (as-is (Relend.msptr S.row y17 10)) (gone (L.sl y17)) (Relend.reads-owed-len U H A W S.row y16 1 10 l1 8 refl, refl)
-            refl refl λ b o k. tt) (pre (begin 11 _) (seq (Reshare.t-sl-reshareᵖ U H A W E L.u8 C _ 5 24 3 11 y12 y15 l3 0 (λ x. x) (λ u. u .1 .1 .1 .1 .1 .1 .1 .1 .1 .1 .1 .1 .0) (as-is
-            r24) (gone y15) refl tt refl refl refl λ b o. tt) d64)))))))
+            refl refl λ b o k. tt) (pre (begin 11 _) (seq (Reshare.t-sl-reshareᵖ U H A W E L.u8 C _ 5 21 3 11 y12 y15 l3 0 (λ x. x) (λ u. u .1 .1 .1 .1 .1 .1 .1 .1 .1 .1 .1 .0) (as-is r26)
+            (gone y15) refl tt refl refl refl λ b o. tt) d57)))))))
 
-        d73 : Typed.Typed U H A C E G18 b46 Δ0 at73
-        d73 = seq (Scalar.t-use U H A W E C _ (Scalar.oFld 10 (Y.field 1 ∷ []) (Y.tyInt Y.w64) 8 (Reads.fieldV Record.the-type Record′.the-laws 1)) 12 L.h64 (Y.tyInt Y.w64) (Row.valS
+        d66 : Typed.Typed U H A C E G18 b41 Δ0 at66
+        d66 = seq (Scalar.t-use U H A W E C _ (Scalar.oFld 10 (Y.field 1 ∷ []) (Y.tyInt Y.w64) 8 (Reads.fieldV Record.the-type Record′.the-laws 1)) 11 L.h64 (Y.tyInt Y.w64) (Row.valS
             (Row.sInt Y.w64)) (Row.sInt Y.w64 .of) (Reads.reads-field U H A W Record.the-type Record′.the-laws 1 (Y.tyInt Y.w64) 8 refl, refl) (gone (Y.tyInt Y.w64)) (Scalar.holds-sc U H A W
-            (Row.sInt Y.w64)) refl (λ u. refl) λ u. tt) d72
+            (Row.sInt Y.w64)) refl (λ u. refl) λ u. tt) d65
 
-        d81 : Typed.Typed U H A C E (record
-            { locals = List._++_ g12 (List._++_ t13 t2); slots = l0 ∷ l1 ∷ l2 ∷ Row.off ∷ l4 ∷ l5 ∷ l6 ∷ Row.off ∷ Row.alive ∷ Row.off ∷ Row.off ∷ Row.off ∷ Row.off ∷ Row.off ∷ Row.off ∷ Row.off ∷ Row.off ∷ [] })
-            b49 Δ0 at81
-        d81 = pre (end 8 refl) (pre (Relend.g-back-sl U H A W E L.u8 _ 19 5 3 8 y12 y14 l3 (λ x. x) (λ x. x) (as-is r30) (as-is (Relend.mslice-owed L.u8 y12 3 8 l3)) refl refl) (pre
-            (Know.g-sl-known U H A W (Referent.fInt Y.w8) E _ 5 3 y12 l3 0 (λ x. x) record { fits = Dec'.lit< tt } (as-is r24) refl tt) (pre (forget 8 Row.dead refl) (seq
-            (WayStmt.t-way-copy-out U H A W E C (Declared.row Piece.the-type) refl (Copies.cStruct Piece.the-type Piece′.the-laws Piece′.the-copy .copy U H A W) (λ ρ. Unit) _ (Row.out 10
-            (G18 .locals)) (λ u. Row.drop 10 (G18 .locals) u) (G18 .slots) 10 (λ t. Y.field 0 ∷ t) Piece′.mir Piece′.mir 11 r44 (λ x. x) (λ u. At.getAt (Record.the-type .parts) 0
-            (Record.struct .as-values (u .1 .1 .1 .1 .1 .1 .1 .1 .1 .1 .0))) (λ u. (Row.rd 0 10 bs, Nat._+_ 0 0)) (λ T′. record { locals = Row.setRow 10 (10, r42) T′; slots = G18 .slots })
-            (λ u T′ m′. Row.set 10 (10, r42) (u .1 .1 .1 .1 .1 .1 .1 .1 .1 .1 .0) T′ m′) (λ u. Unit) (λ x. Unit) (Own.told-none U H A (G18 .slots)) (DerefMove.learns-nothing U H A
-            (Declared.row Piece.the-type)) (λ ρ told u asked. Way'.w-partˢ U H A W E (Declared.row Record.the-type) (Declared.row Piece.the-type) Record′.mir Piece′.mir 0 0 (u .1 .1 .1 .1 .1
-            .1 .1 .1 .1 .1 .0) (At.getAt (Record.the-type .parts) 0 (Record.struct .as-values (u .1 .1 .1 .1 .1 .1 .1 .1 .1 .1 .0))) (Row.rd 0 10 bs, 0) (Way.w-look U H A W E (Way.w-local U
-            H A W E _ ρ u (G18 .slots) 10 (Declared.row Record.the-type) r42 (λ x. x) (λ x. x) (u .1 .1 .1 .1 .1 .1 .1 .1 .1 .1 .0) (Local.mem-whole U H A W (Declared.row Record.the-type) ρ
-            (u .1 .1 .1 .1 .1 .1 .1 .1 .1 .1 .0) (Row.rd 0 10 bs)) (Local.whole-mem U H A W (Declared.row Record.the-type) ρ (u .1 .1 .1 .1 .1 .1 .1 .1 .1 .1 .0) (Row.rd 0 10 bs)))) refl λ
-            q. Inner.cut-record U H A q (Declared.row Record.the-type) Piece.the-type 0 (u .1 .1 .1 .1 .1 .1 .1 .1 .1 .1 .0) (u .1 .1 .1 .1 .1 .1 .1 .1 .1 .1 .0) (At.getAt (Record.the-type
-            .parts) 0 (Record.struct .as-values (u .1 .1 .1 .1 .1 .1 .1 .1 .1 .1 .0))) (At.getAt (Record.the-type .parts) 0 (Record.struct .as-values (u .1 .1 .1 .1 .1 .1 .1 .1 .1 .1 .0)))
-            (Row.rd 0 10 bs, 0) (Behind.look-at U H A W q Record.the-type Record′.the-laws 0 0 refl refl (Row.rd 0 10 bs, 0) (u .1 .1 .1 .1 .1 .1 .1 .1 .1 .1 .0) (Record.struct .as-values (u
-            .1 .1 .1 .1 .1 .1 .1 .1 .1 .1 .0)) refl)) (gone Piece′.mir) (Yields.makes-mem U H A W (λ ρ. Unit) (Declared.row Piece.the-type) refl r44 (λ x. x) λ ρ told. Local.whole-mem U H A
-            W (Declared.row Piece.the-type) ρ) refl refl refl) (pre (Know'.g-struct-known U H A W E Piece.the-type Piece′.the-laws _ 11 (λ x. x) (as-is r44)) (seq (Scalar.t-op1 U H A W E C _
-            Y.bitNot (Scalar.oFld 11 (Y.field 0 ∷ []) Y.tyBool 0 (Reads.fieldV Piece.the-type Piece′.the-laws 0)) 20 L.hbool Y.tyBool (Row.valS Row.sBool) (Row.sBool .of)
-            (Reads.reads-field U H A W Piece.the-type Piece′.the-laws 0 Y.tyBool 0 refl, refl) (gone Y.tyBool) (Scalar.holds-sc U H A W Row.sBool) refl (λ u. refl) λ u. tt) (Typed.t-seq U H
-            A W C E _ _ b11 b46 Δ0 at10 at73 d10 d73)))))))
+        d74 : Typed.Typed U H A C E (lives (l0 ∷ l1 ∷ l2 ∷ Row.off ∷ l4 ∷ l5 ∷ l6 ∷ Row.dead ∷ Row.alive ∷ Row.off ∷ Row.off ∷ Row.off ∷ Row.off ∷ Row.off ∷ Row.off ∷ Row.off ∷ Row.off ∷ [])
+            (on 14 r27 (on 4 r25 G10))) b43 Δ0 at74
+        d74 = pre (forget 7 Row.dead refl) (pre (end 8 refl) (pre (Relend.g-back-sl U H A W E L.u8 _ 16 5 3 8 y12 y14 l3 (λ x. x) (λ x. x) (as-is r34) (as-is (Relend.mslice-owed L.u8 y12 3 8
+            l3)) refl refl) (pre (Know.g-sl-known U H A W (Referent.fInt Y.w8) E _ 5 3 y12 l3 0 (λ x. x) record { fits = Dec'.lit< tt } (as-is r26) refl tt) (pre (forget 8 Row.dead refl)
+            (pre (Know'.g-struct-known U H A W E Record.the-type Record′.the-laws _ 10 (λ x. x) (as-is r45)) (seq (Scalar.t-op1 U H A W E C _ Y.bitNot (Scalar.oFld 10 (Y.field 0 ∷ Y.field 0
+            ∷ []) Y.tyBool 0 λ x. Reads.fieldV Piece.the-type Piece′.the-laws 0 (Record.struct .as-values x .0)) 17 L.hbool Y.tyBool (Row.valS Row.sBool) (Row.sBool .of)
+            (Reads.reads-inner U H A W Piece.the-type Piece′.the-laws r45 0 (λ x. Record.struct .as-values x .0) (Reads.reads-field U H A W Record.the-type Record′.the-laws 0 Piece′.mir 0 refl) 0 Y.tyBool 0 refl, refl)
+            (gone Y.tyBool) (Scalar.holds-sc U H A W Row.sBool) refl (λ u. refl) λ u. tt) (Typed.t-seq U H A W C E _ _ b10 b41 Δ0 at8 at66 d8 d66)))))))
 
-        d85 : Typed.Typed U H A C E (lives (l0 ∷ l1 ∷ Row.off ∷ Row.off ∷ l4 ∷ l5 ∷ l6 ∷ Row.alive ∷ Row.alive ∷ Row.off ∷ Row.off ∷ Row.off ∷ Row.off ∷ Row.off ∷ Row.off ∷ Row.off ∷ Row.off
-            ∷ []) (on 5 (Relend.mslice-owed L.u8 y12 3 8 l3) (on 4 (Relend.mslice-owed L.u8 y11 2 7 l2) T10))) b49 Δ0 at85
-        d85 = pre (end 7 refl) (pre (Relend.g-back-sl U H A W E L.u8 _ 17 4 2 7 y11 y14 l2 (λ x. x) (λ x. x) (as-is r30) (as-is (Relend.mslice-owed L.u8 y11 2 7 l2)) refl refl) (pre
-            (Know.g-sl-known U H A W (Referent.fInt Y.w8) E _ 4 2 y11 l2 0 (λ x. x) record { fits = Dec'.lit< tt } (as-is r23) refl tt) (pre (forget 7 Row.dead refl) d81)))
+        d77 : Typed.Typed U H A C E G10 b43 Δ0 at77
+        d77 = pre (end 7 refl) (pre (Relend.g-back-sl U H A W E L.u8 _ 14 4 2 7 y11 y14 l2 (λ x. x) (λ x. x) (as-is r34) (as-is (Relend.mslice-owed L.u8 y11 2 7 l2)) refl refl) (pre
+            (Know.g-sl-known U H A W (Referent.fInt Y.w8) E _ 4 2 y11 l2 0 (λ x. x) record { fits = Dec'.lit< tt } (as-is r25) refl tt) d74))
 
-        d93 : Typed.Typed U H A C E G0 b54 Δ0 at93
-        d93 = pre (Know.g-sl-known U H A W (Referent.fInt Y.w8) E _ 5 3 y12 l3 0 (λ x. x) record { fits = Dec'.lit< tt } (as-is r24) refl tt) (pre (begin 7 _) (seq (Relend.t-sl-relend U H A
-            W E L.u8 C _ 4 16 2 7 y11 y14 l2 0 (λ x. x) (as-is r23) (gone y14) refl tt refl refl refl λ b o. tt) (seq (Relend.t-sl-aggregate U H A W E L.u8 C (Relend.asMut L.u8) _ 16 17 7
-            y14 y14 (λ x. x) (Scalar.oFld 4 (Y.field 1 ∷ []) (Y.tyInt Y.w64) 8 λ v. Shared.lenV (v .0)) (as-is (Relend.msptr L.u8 y14 7)) (gone y10)
-            (Relend.reads-owed-len U H A W L.u8 y11 2 7 l2 8 refl, refl) refl refl λ b o k. tt) (pre (begin 8 _) (seq (Relend.t-sl-relend U H A W E L.u8 C _ 5 18 3 8 y12 y14 l3 0 (λ x. x)
-            (as-is r24) (gone y14) refl tt refl refl refl λ b o. tt) (seq (Relend.t-sl-aggregate U H A W E L.u8 C (Relend.asMut L.u8) _ 18 19 8 y14 y14 (λ x. x) (Scalar.oFld 5 (Y.field 1 ∷
-            []) (Y.tyInt Y.w64) 8 λ v. Shared.lenV (v .0)) (as-is (Relend.msptr L.u8 y14 8)) (gone y10) (Relend.reads-owed-len U H A W L.u8 y12 3 8 l3 8 refl, refl) refl refl λ b o k. tt)
-            (seq (Plain.t-call-plain U H A W C 2 ps·0 r·0 (cl .0) (cl .1) "frames::next_record" (known .0) E (λ pos β. β) _
-            (record { pos = 17; ty = y14; ref = λ x. x }, (record { pos = 19; ty = y14; ref = λ x. x }, tt)) 10 (7 ∷ 8 ∷ []) (Call.sub-id U H A W _)
-            (as-is r29, Mut.reads-mslice U H A W L.u8 y14 7, refl, (as-is (Mut.mslice L.u8 y14 8), Mut.reads-mslice U H A W L.u8 y14 8, refl, tt)) (gone Record′.mir) (tt, (tt, tt)) refl)
-            d85)))))))
+        d85 : Typed.Typed U H A C E G0 b48 Δ0 at85
+        d85 = pre (Know.g-sl-known U H A W (Referent.fInt Y.w8) E _ 5 3 y12 l3 0 (λ x. x) record { fits = Dec'.lit< tt } (as-is r26) refl tt) (pre (begin 7 _) (seq (Relend.t-sl-relend U H A
+            W E L.u8 C _ 4 13 2 7 y11 y14 l2 0 (λ x. x) (as-is r25) (gone y14) refl tt refl refl refl λ b o. tt) (seq (Relend.t-sl-aggregate U H A W E L.u8 C (Relend.asMut L.u8) _ 13 14 7
+            y14 y14 (λ x. x) (Scalar.oFld 4 (Y.field 1 ∷ []) (Y.tyInt Y.w64) 8 λ v. Shared.lenV (v .0)) (as-is r29) (gone y10) (Relend.reads-owed-len U H A W L.u8 y11 2 7 l2 8 refl, refl)
+            refl refl λ b o k. tt) (pre (begin 8 _) (seq (Relend.t-sl-relend U H A W E L.u8 C _ 5 15 3 8 y12 y14 l3 0 (λ x. x) (as-is r26) (gone y14) refl tt refl refl refl λ b o. tt) (seq
+            (Relend.t-sl-aggregate U H A W E L.u8 C (Relend.asMut L.u8) _ 15 16 8 y14 y14 (λ x. x) (Scalar.oFld 5 (Y.field 1 ∷ []) (Y.tyInt Y.w64) 8 λ v. Shared.lenV (v .0)) (as-is r30)
+            (gone y10) (Relend.reads-owed-len U H A W L.u8 y12 3 8 l3 8 refl, refl) refl refl λ b o k. tt) (seq (Plain.t-call-plain U H A W C 2 ps·0 r·0 (cl .0) (cl .1) "frames::next_record"
+            (known .0) E (λ pos β. β) _ (record { pos = 14; ty = y14; ref = λ x. x }, (record { pos = 16; ty = y14; ref = λ x. x }, tt)) 10 (7 ∷ 8 ∷ []) (Call.sub-id U H A W _)
+            (as-is r33, Mut.reads-mslice U H A W L.u8 y14 7, refl, (as-is (Mut.mslice L.u8 y14 8), Mut.reads-mslice U H A W L.u8 y14 8, refl, tt)) (gone Record′.mir) (tt, (tt, tt)) refl)
+            d77)))))))
 
-        d94 : Typed.Typed U H A C E G0 b54 Δ0 at94
-        d94 = pre (Know.g-sl-known U H A W (Referent.fInt Y.w8) E _ 4 2 y11 l2 0 (λ x. x) record { fits = Dec'.lit< tt } (as-is r23) refl tt) d93
+        d86 : Typed.Typed U H A C E G0 b48 Δ0 at86
+        d86 = pre (Know.g-sl-known U H A W (Referent.fInt Y.w8) E _ 4 2 y11 l2 0 (λ x. x) record { fits = Dec'.lit< tt } (as-is r25) refl tt) d85
 
-        pub typed : Typed.Typed U H A C E (Function.Γin 7 ps r xs m κs qs) b54 (Function.Δret 7 ps r xs m κs qs) (Φ bs)
-        typed = d94
+        pub typed : Typed.Typed U H A C E (Function.Γin 7 ps r xs m κs qs) b48 (Function.Δret 7 ps r xs m κs qs) Φ
+        typed = d86
 
     module _ (κs : Lifetimes.Lfts 7) where
       pub record Args : Type 0 where
@@ -1205,7 +1047,6 @@ module _ (cl : Claims) where
     pub record Start : Type 0 where
       pub κs : Lifetimes.Lfts 7
       pub args : Args κs
-      pub blocks : List.List Nat.ℕ
       pub good : Kinds.GoodsP κs ps (dens κs args)
       pub pre : Pre· κs (dens κs args)
 
@@ -1265,7 +1106,7 @@ module _ (cl : Claims) where
     Need-next-record-requires = (c : After-next-record-arg2) → s8 .asks (m6 c)
 
     abbrev pub After-next-record·own : (c : After-next-record-arg2) → Type 0
-    After-next-record·own c = Called.Called ps·0 r·0 (cl .1) T9 (record { pos = 17; ty = y14; ref = λ x. x }, (record { pos = 19; ty = y14; ref = λ x. x }, tt)) (m6 c)
+    After-next-record·own c = Called.Called ps·0 r·0 (cl .1) T9 (record { pos = 14; ty = y14; ref = λ x. x }, (record { pos = 16; ty = y14; ref = λ x. x }, tt)) (m6 c)
 
     pub record After-next-record : Type 0 where
       pub before : After-next-record-arg2
@@ -1317,313 +1158,289 @@ module _ (cl : Claims) where
     abbrev m11 : (c : After-slice-known4) → Typed.Mo T16
     m11 c = s15 .next (m10 (c .before)) (c .slice-known4 .given)
 
-    pub record After-piece·own (c : After-slice-known4) : Type 0 where
+    abbrev W1 : (c : After-slice-known4) → Typed.Want O1
+    W1 c = Typed.wantNext T16 O0 (at66 (W0 (c .before .before .before .before .before .before .before .before .before))) (W0 (c .before .before .before .before .before .before .before
+        .before .before))
+
+    pub record After-struct-known·own (c : After-slice-known4) : Type 0 where
       pub given : s17 .gives (m11 c)
 
-    pub record After-piece : Type 0 where
-      pub before : After-slice-known4
-      pub piece : After-piece·own before
-
-    abbrev m12 : (c : After-piece) → Typed.Mo T19
-    m12 c = s17 .next (m11 (c .before)) (c .piece .given)
-
-    abbrev W1 : (c : After-piece) → Typed.Want O1
-    W1 c = Typed.wantNext T16 O0 (at73 (W0 (c .before .before .before .before .before .before .before .before .before .before))) (W0 (c .before .before .before .before .before .before
-        .before .before .before .before))
-
-    pub record After-struct-known·own (c : After-piece) : Type 0 where
-      pub given : s18 .gives (m12 c)
-
     pub record After-struct-known : Type 0 where
-      pub before : After-piece
+      pub before : After-slice-known4
       pub struct-known : After-struct-known·own before
 
-    abbrev m14 : (c : After-struct-known) → Typed.Mo T21
-    m14 c = s19 .next (s18 .next (m12 (c .before)) (c .struct-known .given))
+    abbrev m13 : (c : After-struct-known) → Typed.Mo T20
+    m13 c = s18 .next (s17 .next (m11 (c .before)) (c .struct-known .given))
 
-    abbrev m16 : (c : After-struct-known) → Typed.Mo T24
-    m16 c = s21 (s20 (m14 c))
+    abbrev m14 : (c : After-struct-known) → Typed.Mo T16
+    m14 c = s19 (m13 c)
 
     pub record Then1·own (c : After-struct-known) : Type 0 where
-      pub taken : Path'._≡_ (Row.get 20 (T21 .locals) (m14 c)) Bool'.true
+      pub taken : Path'._≡_ (Row.get 17 (T20 .locals) (m13 c)) Bool'.true
 
     pub record Then1 : Type 0 where
       pub before : After-struct-known
       pub if1 : Then1·own before
 
     abbrev pub Need-stopped-requires : Type 0
-    Need-stopped-requires = (c : Then1) → s22 .asks (m16 (c .before))
+    Need-stopped-requires = (c : Then1) → s20 .asks (m14 (c .before))
 
     abbrev pub After-stopped·own : (c : Then1) → Type 0
-    After-stopped·own c = Called.Called ps·1 r·1 (cl .3) T24 (record { pos = 1; st = []; d = 0; at = λ x. x }, (record { pos = 11; st = []; d = 0; at = λ x. x }, tt)) (m16 (c .before))
+    After-stopped·own c = Called.Called ps·1 r·1 (cl .3) T16 (record { pos = 1; st = []; d = 0; at = λ x. x }, (record { pos = 10; st = []; d = 0; at = λ x. x }, tt)) (m14 (c .before))
 
     pub record After-stopped : Type 0 where
       pub before : Then1
       pub stopped : After-stopped·own before
 
-    abbrev pub After-stopped·gave : (c : After-stopped) → s22 .gives (m16 (c .before .before))
+    abbrev pub After-stopped·gave : (c : After-stopped) → s20 .gives (m14 (c .before .before))
     After-stopped·gave c = Called.given _ _ _ _ _ _ (c .stopped)
 
-    abbrev m17 : (c : After-stopped) → Typed.Mo T25
-    m17 c = s22 .next (m16 (c .before .before)) (After-stopped·gave c)
+    abbrev m15 : (c : After-stopped) → Typed.Mo T23
+    m15 c = s20 .next (m14 (c .before .before)) (After-stopped·gave c)
 
-    abbrev m20 : (c : After-stopped) → Typed.Mo T1
-    m20 c = s25 (s24 (s23 (m17 c)))
+    abbrev m18 : (c : After-stopped) → Typed.Mo T1
+    m18 c = s23 (s22 (s21 (m15 c)))
 
     abbrev pub Need-same-length : Type 0
-    Need-same-length = (c : After-stopped) → MutSlice.SameLen (Row.get 4 (T1 .locals) (m20 c)) (passed (c .before .before .before .before .before .before .before .before .before .before
-        .before .before .before) .1 .1 .1 .0)
+    Need-same-length = (c : After-stopped) → MutSlice.SameLen (Row.get 4 (T1 .locals) (m18 c)) (passed (c .before .before .before .before .before .before .before .before .before .before
+        .before .before) .1 .1 .1 .0)
 
     abbrev pub Need-same-length-2 : Type 0
-    Need-same-length-2 = (c : After-stopped) → MutSlice.SameLen (Row.get 5 (T1 .locals) (m20 c)) (passed (c .before .before .before .before .before .before .before .before .before .before
-        .before .before .before) .1 .1 .1 .1 .0)
+    Need-same-length-2 = (c : After-stopped) → MutSlice.SameLen (Row.get 5 (T1 .locals) (m18 c)) (passed (c .before .before .before .before .before .before .before .before .before .before
+        .before .before) .1 .1 .1 .1 .0)
 
     abbrev pub Need-returns : Type 0
-    Need-returns = (c : After-stopped) → Owed (c .before .before .before .before .before .before .before .before .before .before .before .before .before) (m20 c)
-
-    abbrev m22 : (c : After-struct-known) → Typed.Mo T16
-    m22 c = s27 (s26 (m14 c))
+    Need-returns = (c : After-stopped) → Owed (c .before .before .before .before .before .before .before .before .before .before .before .before) (m18 c)
 
     pub record Else1·own (c : After-struct-known) : Type 0 where
-      pub left : Path'._≡_ (Row.get 20 (T21 .locals) (m14 c)) Bool'.false
+      pub left : Path'._≡_ (Row.get 17 (T20 .locals) (m13 c)) Bool'.false
 
     pub record Else1 : Type 0 where
       pub before : After-struct-known
       pub if1 : Else1·own before
 
-    abbrev m24 : (c : After-struct-known) → Typed.Mo T32
-    m24 c = s29 (s28 (m22 c))
+    abbrev m21 : (c : After-struct-known) → Typed.Mo T29
+    m21 c = s26 (s25 (m14 c))
 
     pub record After-respond-arg·own (c : Else1) : Type 0 where
-      pub given : s31 .gives (m24 (c .before))
+      pub given : s28 .gives (m21 (c .before))
 
     pub record After-respond-arg : Type 0 where
       pub before : Else1
       pub respond-arg : After-respond-arg·own before
 
-    abbrev m25 : (c : After-respond-arg) → Typed.Mo T34
-    m25 c = s31 .next (m24 (c .before .before)) (c .respond-arg .given)
+    abbrev m22 : (c : After-respond-arg) → Typed.Mo T31
+    m22 c = s28 .next (m21 (c .before .before)) (c .respond-arg .given)
 
     pub record After-respond-arg2·own (c : After-respond-arg) : Type 0 where
-      pub given : s33 .gives (m25 c)
+      pub given : s30 .gives (m22 c)
 
     pub record After-respond-arg2 : Type 0 where
       pub before : After-respond-arg
       pub respond-arg2 : After-respond-arg2·own before
 
-    abbrev m27 : (c : After-respond-arg2) → Typed.Mo T37
-    m27 c = s34 .next (s33 .next (m25 (c .before)) (c .respond-arg2 .given))
+    abbrev m24 : (c : After-respond-arg2) → Typed.Mo T34
+    m24 c = s31 .next (s30 .next (m22 (c .before)) (c .respond-arg2 .given))
 
     abbrev pub Need-slice-reshare-prefix-respond : Type 0
-    Need-slice-reshare-prefix-respond = (c : After-respond-arg2) → s36 .asks (m27 c)
+    Need-slice-reshare-prefix-respond = (c : After-respond-arg2) → s33 .asks (m24 c)
 
     pub record After-respond-arg3·own (c : After-respond-arg2) : Type 0 where
-      pub given : s36 .gives (m27 c)
+      pub given : s33 .gives (m24 c)
 
     pub record After-respond-arg3 : Type 0 where
       pub before : After-respond-arg2
       pub respond-arg3 : After-respond-arg3·own before
 
-    abbrev m28 : (c : After-respond-arg3) → Typed.Mo T39
-    m28 c = s36 .next (m27 (c .before)) (c .respond-arg3 .given)
+    abbrev m25 : (c : After-respond-arg3) → Typed.Mo T36
+    m25 c = s33 .next (m24 (c .before)) (c .respond-arg3 .given)
 
-    abbrev m29 : (c : After-respond-arg3) → Typed.Mo T40
-    m29 c = s37 .next (m28 c)
+    abbrev m26 : (c : After-respond-arg3) → Typed.Mo T37
+    m26 c = s34 .next (m25 c)
 
     abbrev pub Need-slice-aggregate-respond : Type 0
-    Need-slice-aggregate-respond = (c : After-respond-arg3) → Relend.CountIs T39 24 25 (λ x. x) (λ u. u .1 .1 .1 .1 .1 .1 .1 .1 .1 .1 .1 .1 .0) (m28 c)
+    Need-slice-aggregate-respond = (c : After-respond-arg3) → Relend.CountIs T36 21 22 (λ x. x) (λ u. u .1 .1 .1 .1 .1 .1 .1 .1 .1 .1 .1 .0) (m25 c)
 
     pub record After-respond-arg4·own (c : After-respond-arg3) : Type 0 where
-      pub given : s39 .gives (m29 c)
+      pub given : s36 .gives (m26 c)
 
     pub record After-respond-arg4 : Type 0 where
       pub before : After-respond-arg3
       pub respond-arg4 : After-respond-arg4·own before
 
-    abbrev m30 : (c : After-respond-arg4) → Typed.Mo T42
-    m30 c = s39 .next (m29 (c .before)) (c .respond-arg4 .given)
+    abbrev m27 : (c : After-respond-arg4) → Typed.Mo T39
+    m27 c = s36 .next (m26 (c .before)) (c .respond-arg4 .given)
 
     pub record After-respond-arg5·own (c : After-respond-arg4) : Type 0 where
-      pub given : s41 .gives (m30 c)
+      pub given : s38 .gives (m27 c)
 
     pub record After-respond-arg5 : Type 0 where
       pub before : After-respond-arg4
       pub respond-arg5 : After-respond-arg5·own before
 
-    abbrev m31 : (c : After-respond-arg5) → Typed.Mo T44
-    m31 c = s41 .next (m30 (c .before)) (c .respond-arg5 .given)
+    abbrev m28 : (c : After-respond-arg5) → Typed.Mo T41
+    m28 c = s38 .next (m27 (c .before)) (c .respond-arg5 .given)
 
     pub record After-respond-arg6·own (c : After-respond-arg5) : Type 0 where
-      pub given : s43 .gives (m31 c)
+      pub given : s40 .gives (m28 c)
 
     pub record After-respond-arg6 : Type 0 where
       pub before : After-respond-arg5
       pub respond-arg6 : After-respond-arg6·own before
 
-    abbrev m32 : (c : After-respond-arg6) → Typed.Mo T46
-    m32 c = s43 .next (m31 (c .before)) (c .respond-arg6 .given)
+    abbrev m29 : (c : After-respond-arg6) → Typed.Mo T43
+    m29 c = s40 .next (m28 (c .before)) (c .respond-arg6 .given)
 
     abbrev pub Need-respond-requires : Type 0
-    Need-respond-requires = (c : After-respond-arg6) → s44 .asks (m32 c)
+    Need-respond-requires = (c : After-respond-arg6) → s41 .asks (m29 c)
 
     abbrev pub After-respond·own : (c : After-respond-arg6) → Type 0
-    After-respond·own c = Called.Called ps·2 r·2 (cl .5) T46
-        (record { pos = 1; st = []; d = 0; at = λ x. x }, (record { pos = 21; ty = y6; ref = λ x. x }, (record { pos = 23; ty = y17; ref = λ x. x }, (record { pos = 25; ty = y15; ref = λ x. x }, (record { pos = 26; ty = y7; ref = λ x. x }, (record { pos = 27; ty = y5; ref = λ x. x }, (record { pos = 28; ty = y4; ref = λ x. x }, tt)))))))
-        (m32 c)
+    After-respond·own c = Called.Called ps·2 r·2 (cl .5) T43
+        (record { pos = 1; st = []; d = 0; at = λ x. x }, (record { pos = 18; ty = y6; ref = λ x. x }, (record { pos = 20; ty = y17; ref = λ x. x }, (record { pos = 22; ty = y15; ref = λ x. x }, (record { pos = 23; ty = y7; ref = λ x. x }, (record { pos = 24; ty = y5; ref = λ x. x }, (record { pos = 25; ty = y4; ref = λ x. x }, tt)))))))
+        (m29 c)
 
     pub record After-respond : Type 0 where
       pub before : After-respond-arg6
       pub respond : After-respond·own before
 
-    abbrev pub After-respond·gave : (c : After-respond) → s44 .gives (m32 (c .before))
+    abbrev pub After-respond·gave : (c : After-respond) → s41 .gives (m29 (c .before))
     After-respond·gave c = Called.given _ _ _ _ _ _ (c .respond)
 
-    abbrev m33 : (c : After-respond) → Typed.Mo T47
-    m33 c = s44 .next (m32 (c .before)) (After-respond·gave c)
+    abbrev m30 : (c : After-respond) → Typed.Mo T44
+    m30 c = s41 .next (m29 (c .before)) (After-respond·gave c)
 
-    abbrev m36 : (c : After-respond) → Typed.Mo T51
-    m36 c = s48 .next (s46 (s45 (m33 c)))
+    abbrev m33 : (c : After-respond) → Typed.Mo T48
+    m33 c = s45 .next (s43 (s42 (m30 c)))
 
     pub record After-t·own (c : After-respond) : Type 0 where
-      pub given : s51 .gives (m36 c)
+      pub given : s48 .gives (m33 c)
 
     pub record After-t : Type 0 where
       pub before : After-respond
       pub t : After-t·own before
 
-    abbrev m41 : (c : After-t) → Typed.Mo T66
-    m41 c = s63 .next (s60 .next (s57 .next (s54 (s51 .next (m36 (c .before)) (c .t .given)))))
+    abbrev m38 : (c : After-t) → Typed.Mo T63
+    m38 c = s60 .next (s57 .next (s54 .next (s51 (s48 .next (m33 (c .before)) (c .t .given)))))
 
-    pub record After-after·own (c : After-t) : Type 0 where
-      pub given : s65 .gives (m41 c)
-
-    pub record After-after : Type 0 where
-      pub before : After-t
-      pub after : After-after·own before
-
-    abbrev m42 : (c : After-after) → Typed.Mo T68
-    m42 c = s65 .next (m41 (c .before)) (c .after .given)
-
-    pub record After-tell-all-arg·own (c : After-after) : Type 0 where
-      pub given : s67 .gives (m42 c)
+    pub record After-tell-all-arg·own (c : After-t) : Type 0 where
+      pub given : s63 .gives (m38 c)
 
     pub record After-tell-all-arg : Type 0 where
-      pub before : After-after
+      pub before : After-t
       pub tell-all-arg : After-tell-all-arg·own before
 
-    abbrev m43 : (c : After-tell-all-arg) → Typed.Mo T70
-    m43 c = s67 .next (m42 (c .before)) (c .tell-all-arg .given)
+    abbrev m39 : (c : After-tell-all-arg) → Typed.Mo T66
+    m39 c = s63 .next (m38 (c .before)) (c .tell-all-arg .given)
 
     pub record After-tell-all-arg2·own (c : After-tell-all-arg) : Type 0 where
-      pub given : s68 .gives (m43 c)
+      pub given : s64 .gives (m39 c)
 
     pub record After-tell-all-arg2 : Type 0 where
       pub before : After-tell-all-arg
       pub tell-all-arg2 : After-tell-all-arg2·own before
 
-    abbrev m44 : (c : After-tell-all-arg2) → Typed.Mo T71
-    m44 c = s68 .next (m43 (c .before)) (c .tell-all-arg2 .given)
+    abbrev m40 : (c : After-tell-all-arg2) → Typed.Mo T67
+    m40 c = s64 .next (m39 (c .before)) (c .tell-all-arg2 .given)
 
-    abbrev m45 : (c : After-tell-all-arg2) → Typed.Mo T72
-    m45 c = s69 .next (m44 c)
+    abbrev m41 : (c : After-tell-all-arg2) → Typed.Mo T68
+    m41 c = s65 .next (m40 c)
 
     pub record After-tell-all-arg3·own (c : After-tell-all-arg2) : Type 0 where
-      pub given : s71 .gives (m45 c)
+      pub given : s67 .gives (m41 c)
 
     pub record After-tell-all-arg3 : Type 0 where
       pub before : After-tell-all-arg2
       pub tell-all-arg3 : After-tell-all-arg3·own before
 
-    abbrev m46 : (c : After-tell-all-arg3) → Typed.Mo T74
-    m46 c = s71 .next (m45 (c .before)) (c .tell-all-arg3 .given)
+    abbrev m42 : (c : After-tell-all-arg3) → Typed.Mo T70
+    m42 c = s67 .next (m41 (c .before)) (c .tell-all-arg3 .given)
 
     pub record After-tell-all-arg4·own (c : After-tell-all-arg3) : Type 0 where
-      pub given : s72 .gives (m46 c)
+      pub given : s68 .gives (m42 c)
 
     pub record After-tell-all-arg4 : Type 0 where
       pub before : After-tell-all-arg3
       pub tell-all-arg4 : After-tell-all-arg4·own before
 
-    abbrev m47 : (c : After-tell-all-arg4) → Typed.Mo T75
-    m47 c = s72 .next (m46 (c .before)) (c .tell-all-arg4 .given)
+    abbrev m43 : (c : After-tell-all-arg4) → Typed.Mo T71
+    m43 c = s68 .next (m42 (c .before)) (c .tell-all-arg4 .given)
 
-    abbrev m48 : (c : After-tell-all-arg4) → Typed.Mo T76
-    m48 c = s73 .next (m47 c)
+    abbrev m44 : (c : After-tell-all-arg4) → Typed.Mo T72
+    m44 c = s69 .next (m43 c)
 
     abbrev pub Need-tell-all-requires : Type 0
-    Need-tell-all-requires = (c : After-tell-all-arg4) → s74 .asks (m48 c)
+    Need-tell-all-requires = (c : After-tell-all-arg4) → s70 .asks (m44 c)
 
     abbrev pub After-tell-all·own : (c : After-tell-all-arg4) → Type 0
-    After-tell-all·own c = Called.Called ps·3 r·3 (cl .7) T76
-        (Bool.bAt 9 λ x. x, (record { pos = 30; ty = y15; ref = λ x. x }, (Num.vFld 13 (Y.field 1 ∷ []) 88 λ x. Answered.struct .as-values x .1 .0, (record { pos = 32; ty = y13; ref = λ x. x }, tt))))
-        (m48 c)
+    After-tell-all·own c = Called.Called ps·3 r·3 (cl .7) T72
+        (Bool.bAt 9 λ x. x, (record { pos = 12; st = []; d = 0; at = λ x. x }, (record { pos = 27; ty = y15; ref = λ x. x }, (record { pos = 29; ty = y13; ref = λ x. x }, tt)))) (m44 c)
 
     pub record After-tell-all : Type 0 where
       pub before : After-tell-all-arg4
       pub tell-all : After-tell-all·own before
 
-    abbrev pub After-tell-all·gave : (c : After-tell-all) → s74 .gives (m48 (c .before))
+    abbrev pub After-tell-all·gave : (c : After-tell-all) → s70 .gives (m44 (c .before))
     After-tell-all·gave c = Called.given _ _ _ _ _ _ (c .tell-all)
 
-    abbrev m49 : (c : After-tell-all) → Typed.Mo T77
-    m49 c = s74 .next (m48 (c .before)) (After-tell-all·gave c)
+    abbrev m45 : (c : After-tell-all) → Typed.Mo T73
+    m45 c = s70 .next (m44 (c .before)) (After-tell-all·gave c)
 
-    abbrev m60 : (c : After-tell-all) → Typed.Mo T1
-    m60 c = s89 (s88 (s87 (s86 (s85 (s84 (s82 .next (s79 .next (s77 (s76 (s75 (m49 c)))))))))))
+    abbrev m52 : (c : After-tell-all) → Typed.Mo T1
+    m52 c = s23 (s79 .next (s76 .next (s74 (s73 (s72 (s71 (m45 c)))))))
 
     abbrev pub Need-same-length-3 : Type 0
-    Need-same-length-3 = (c : After-tell-all) → MutSlice.SameLen (Row.get 3 (T1 .locals) (m60 c)) (passed (c .before .before .before .before .before .before .before .before .before .before
-        .before .before .before .before .before .before .before .before .before .before .before .before .before .before .before .before) .1 .1 .0)
+    Need-same-length-3 = (c : After-tell-all) → MutSlice.SameLen (Row.get 3 (T1 .locals) (m52 c)) (passed (c .before .before .before .before .before .before .before .before .before .before
+        .before .before .before .before .before .before .before .before .before .before .before .before .before .before) .1 .1 .0)
 
     abbrev pub Need-same-length-4 : Type 0
-    Need-same-length-4 = (c : After-tell-all) → MutSlice.SameLen (Row.get 4 (T1 .locals) (m60 c)) (passed (c .before .before .before .before .before .before .before .before .before .before
-        .before .before .before .before .before .before .before .before .before .before .before .before .before .before .before .before) .1 .1 .1 .0)
+    Need-same-length-4 = (c : After-tell-all) → MutSlice.SameLen (Row.get 4 (T1 .locals) (m52 c)) (passed (c .before .before .before .before .before .before .before .before .before .before
+        .before .before .before .before .before .before .before .before .before .before .before .before .before .before) .1 .1 .1 .0)
 
     abbrev pub Need-same-length-5 : Type 0
-    Need-same-length-5 = (c : After-tell-all) → MutSlice.SameLen (Row.get 5 (T1 .locals) (m60 c)) (passed (c .before .before .before .before .before .before .before .before .before .before
-        .before .before .before .before .before .before .before .before .before .before .before .before .before .before .before .before) .1 .1 .1 .1 .0)
+    Need-same-length-5 = (c : After-tell-all) → MutSlice.SameLen (Row.get 5 (T1 .locals) (m52 c)) (passed (c .before .before .before .before .before .before .before .before .before .before
+        .before .before .before .before .before .before .before .before .before .before .before .before .before .before) .1 .1 .1 .1 .0)
 
     abbrev pub Need-returns-2 : Type 0
     Need-returns-2 = (c : After-tell-all) → Owed (c .before .before .before .before .before .before .before .before .before .before .before .before .before .before .before .before .before
-        .before .before .before .before .before .before .before .before .before) (m60 c)
+        .before .before .before .before .before .before .before) (m52 c)
 
     module _ (next-record-requires : Need-next-record-requires) (stopped-requires : Need-stopped-requires) (same-length : Need-same-length) (same-length-2 : Need-same-length-2) (returns :
         Need-returns) (slice-reshare-prefix-respond : Need-slice-reshare-prefix-respond) (slice-aggregate-respond : Need-slice-aggregate-respond) (respond-requires : Need-respond-requires)
         (tell-all-requires : Need-tell-all-requires) (same-length-3 : Need-same-length-3) (same-length-4 : Need-same-length-4) (same-length-5 : Need-same-length-5) (returns-2 :
         Need-returns-2) where
-      lay5 : (c : After-tell-all) → at26 (W0 (c .before .before .before .before .before .before .before .before .before .before .before .before .before .before .before .before .before
-          .before .before .before .before .before .before .before .before .before)) (m49 c)
+      lay5 : (c : After-tell-all) → at20 (W0 (c .before .before .before .before .before .before .before .before .before .before .before .before .before .before .before .before .before
+          .before .before .before .before .before .before .before)) (m45 c)
       lay5 c =
-          ((refl, tt), ((refl, tt), ((tt, (refl, (MutSlice.fix-len _ _ (Row.get 3 (T1 .locals) (m60 c) .now) (passed (c .before .before .before .before .before .before .before .before .before .before .before .before .before .before .before .before .before .before .before .before .before .before .before .before .before .before) .1 .1 .0 .now) (same-length-3 c), (MutSlice.fix-len _ _ (Row.get 4 (T1 .locals) (m60 c) .now) (passed (c .before .before .before .before .before .before .before .before .before .before .before .before .before .before .before .before .before .before .before .before .before .before .before .before .before .before) .1 .1 .1 .0 .now) (same-length-4 c), (MutSlice.fix-len _ _ (Row.get 5 (T1 .locals) (m60 c) .now) (passed (c .before .before .before .before .before .before .before .before .before .before .before .before .before .before .before .before .before .before .before .before .before .before .before .before .before .before) .1 .1 .1 .1 .0 .now) (same-length-5 c), (refl, (refl, (refl, (tt, tt))))))))), returns-2 c)))
+          ((refl, tt), ((refl, tt), ((tt, (refl, (MutSlice.fix-len _ _ (Row.get 3 (T1 .locals) (m52 c) .now) (passed (c .before .before .before .before .before .before .before .before .before .before .before .before .before .before .before .before .before .before .before .before .before .before .before .before) .1 .1 .0 .now) (same-length-3 c), (MutSlice.fix-len _ _ (Row.get 4 (T1 .locals) (m52 c) .now) (passed (c .before .before .before .before .before .before .before .before .before .before .before .before .before .before .before .before .before .before .before .before .before .before .before .before) .1 .1 .1 .0 .now) (same-length-4 c), (MutSlice.fix-len _ _ (Row.get 5 (T1 .locals) (m52 c) .now) (passed (c .before .before .before .before .before .before .before .before .before .before .before .before .before .before .before .before .before .before .before .before .before .before .before .before) .1 .1 .1 .1 .0 .now) (same-length-5 c), (refl, (refl, (refl, (tt, tt))))))))), returns-2 c)))
 
-      lay4 : (c : After-respond) → at56 (W0 (c .before .before .before .before .before .before .before .before .before .before .before .before .before .before .before .before .before .before
-          .before)) (m33 c)
+      lay4 : (c : After-respond) → at49 (W0 (c .before .before .before .before .before .before .before .before .before .before .before .before .before .before .before .before .before
+          .before)) (m30 c)
       lay4 c =
-          (refl, (refl, λ g. let c1 : After-t = record { before = c; t = record { given = g } } in (refl, (refl, (refl, (tt, λ g'. let c2 : After-after = record { before = c1; after = record { given = g' } } in (tt, λ g''. let c3 : After-tell-all-arg = record { before = c2; tell-all-arg = record { given = g'' } } in λ g'3. let c4 : After-tell-all-arg2 = record { before = c3; tell-all-arg2 = record { given = g'3 } } in (Relend.count-is T71 29 30 (λ x. x) (λ u. 66048) (m44 c4) (Path'.sym (g'3 .0)), (tt, λ g'4. let c5 : After-tell-all-arg3 = record { before = c4; tell-all-arg3 = record { given = g'4 } } in λ g'5. let c6 : After-tell-all-arg4 = record { before = c5; tell-all-arg4 = record { given = g'5 } } in (Relend.count-is T75 31 32 (λ x. x) (λ u. 6912) (m47 c6) (Path'.sym (g'5 .0)), (tell-all-requires c6, λ g'6. lay5 (record { before = c6; tell-all = Called.called _ _ _ _ _ _ g'6 }))))))))))))
+          (refl, (refl, λ g. let c1 : After-t = record { before = c; t = record { given = g } } in (refl, (refl, (refl, (tt, λ g'. let c2 : After-tell-all-arg = record { before = c1; tell-all-arg = record { given = g' } } in λ g''. let c3 : After-tell-all-arg2 = record { before = c2; tell-all-arg2 = record { given = g'' } } in (Relend.count-is T67 26 27 (λ x. x) (λ u. 66048) (m40 c3) (Path'.sym (g'' .0)), (tt, λ g'3. let c4 : After-tell-all-arg3 = record { before = c3; tell-all-arg3 = record { given = g'3 } } in λ g'4. let c5 : After-tell-all-arg4 = record { before = c4; tell-all-arg4 = record { given = g'4 } } in (Relend.count-is T71 28 29 (λ x. x) (λ u. 6912) (m43 c5) (Path'.sym (g'4 .0)), (tell-all-requires c5, λ g'5. lay5 (record { before = c5; tell-all = Called.called _ _ _ _ _ _ g'5 })))))))))))
 
-      lay3 : (c : Else1) → at73 (W0 (c .before .before .before .before .before .before .before .before .before .before .before .before)) (m22 (c .before))
+      lay3 : (c : Else1) → at66 (W0 (c .before .before .before .before .before .before .before .before .before .before .before)) (m14 (c .before))
       lay3 c = λ g. let c1 : After-respond-arg = record { before = c; respond-arg = record { given = g } } in λ g'. let c2 : After-respond-arg2 = record
           { before = c1; respond-arg2 = record { given = g' } } in
-          (refl, (slice-reshare-prefix-respond c2, λ g''. let c3 : After-respond-arg3 = record { before = c2; respond-arg3 = record { given = g'' } } in (Relend.count-is T39 24 25 (λ x. x) (λ u. u .1 .1 .1 .1 .1 .1 .1 .1 .1 .1 .1 .1 .0) (m28 c3) (slice-aggregate-respond c3), λ g'3. let c4 : After-respond-arg4 = record { before = c3; respond-arg4 = record { given = g'3 } } in λ g'4. let c5 : After-respond-arg5 = record { before = c4; respond-arg5 = record { given = g'4 } } in λ g'5. let c6 : After-respond-arg6 = record { before = c5; respond-arg6 = record { given = g'5 } } in (respond-requires c6, λ g'6. lay4 (record { before = c6; respond = Called.called _ _ _ _ _ _ g'6 })))))
+          (refl, (slice-reshare-prefix-respond c2, λ g''. let c3 : After-respond-arg3 = record { before = c2; respond-arg3 = record { given = g'' } } in (Relend.count-is T36 21 22 (λ x. x) (λ u. u .1 .1 .1 .1 .1 .1 .1 .1 .1 .1 .1 .0) (m25 c3) (slice-aggregate-respond c3), λ g'3. let c4 : After-respond-arg4 = record { before = c3; respond-arg4 = record { given = g'3 } } in λ g'4. let c5 : After-respond-arg5 = record { before = c4; respond-arg5 = record { given = g'4 } } in λ g'5. let c6 : After-respond-arg6 = record { before = c5; respond-arg6 = record { given = g'5 } } in (respond-requires c6, λ g'6. lay4 (record { before = c6; respond = Called.called _ _ _ _ _ _ g'6 })))))
 
-      lay2 : (c : After-stopped) → at3 (W1 (c .before .before .before)) (m17 c)
+      lay2 : (c : After-stopped) → at3 (W1 (c .before .before .before)) (m15 c)
       lay2 c =
-          ((tt, (refl, (refl, (MutSlice.fix-len _ _ (Row.get 4 (T1 .locals) (m20 c) .now) (passed (c .before .before .before .before .before .before .before .before .before .before .before .before .before) .1 .1 .1 .0 .now) (same-length c), (MutSlice.fix-len _ _ (Row.get 5 (T1 .locals) (m20 c) .now) (passed (c .before .before .before .before .before .before .before .before .before .before .before .before .before) .1 .1 .1 .1 .0 .now) (same-length-2 c), (refl, (refl, (refl, (tt, tt))))))))), returns c)
+          ((tt, (refl, (refl, (MutSlice.fix-len _ _ (Row.get 4 (T1 .locals) (m18 c) .now) (passed (c .before .before .before .before .before .before .before .before .before .before .before .before) .1 .1 .1 .0 .now) (same-length c), (MutSlice.fix-len _ _ (Row.get 5 (T1 .locals) (m18 c) .now) (passed (c .before .before .before .before .before .before .before .before .before .before .before .before) .1 .1 .1 .1 .0 .now) (same-length-2 c), (refl, (refl, (refl, (tt, tt))))))))), returns c)
 
-      lay1 : (c : After-next-record) → at85 (W0 (c .before .before .before .before .before)) (m7 c)
+      lay1 : (c : After-next-record) → at77 (W0 (c .before .before .before .before .before)) (m7 c)
       lay1 c =
-          (refl, λ g. let c1 : After-two = record { before = c; two = record { given = g } } in λ g'. let c2 : After-slice-known3 = record { before = c1; slice-known3 = record { given = g' } } in (refl, λ g''. let c3 : After-rec = record { before = c2; rec = record { given = g'' } } in λ g'3. let c4 : After-slice-known4 = record { before = c3; slice-known4 = record { given = g'3 } } in (tt, λ g'4. let c5 : After-piece = record { before = c4; piece = record { given = g'4 } } in λ g'5. let c6 : After-struct-known = record { before = c5; struct-known = record { given = g'5 } } in (tt, (λ taken. let c7 : Then1 = record { before = c6; if1 = record { taken = taken } } in (stopped-requires c7, λ g'6. lay2 (record { before = c7; stopped = Called.called _ _ _ _ _ _ g'6 })), λ left. lay3 (record { before = c6; if1 = record { left = left } }))))))
+          (refl, λ g. let c1 : After-two = record { before = c; two = record { given = g } } in λ g'. let c2 : After-slice-known3 = record { before = c1; slice-known3 = record { given = g' } } in (refl, λ g''. let c3 : After-rec = record { before = c2; rec = record { given = g'' } } in λ g'3. let c4 : After-slice-known4 = record { before = c3; slice-known4 = record { given = g'3 } } in λ g'4. let c5 : After-struct-known = record { before = c4; struct-known = record { given = g'4 } } in (tt, (λ taken. let c6 : Then1 = record { before = c5; if1 = record { taken = taken } } in (stopped-requires c6, λ g'5. lay2 (record { before = c6; stopped = Called.called _ _ _ _ _ _ g'5 })), λ left. lay3 (record { before = c5; if1 = record { left = left } })))))
 
-      pub laid : (c : Start) → at94 (W0 c) (m0 c)
+      pub laid : (c : Start) → at86 (W0 c) (m0 c)
       laid c = λ g. let c1 : After-slice-known = record { before = c; slice-known = record { given = g } } in λ g'. let c2 : After-slice-known2 = record
           { before = c1; slice-known2 = record { given = g' } } in λ g''. let c3 : After-next-record-arg = record { before = c2; next-record-arg = record { given = g'' } } in
           (refl, λ g'3. let c4 : After-next-record-arg2 = record { before = c3; next-record-arg2 = record { given = g'3 } } in (refl, (next-record-requires c4, λ g'4. lay1 (record { before = c4; next-record = Called.called _ _ _ _ _ _ g'4 }))))
 
-      pub asked : (κs : Lifetimes.Lfts 7) → (qs : Lifetimes.Shares 7) → (a : Kinds.Dens κs ps) → (good : Kinds.GoodsP κs ps a) → (pre : Pre· κs a) → (bs : List.List Nat.ℕ) → Φ bs (Any.wantQ
-          7 ps r xs m κs qs a (Post· κs a)) (Function.init 7 ps r xs m κs qs a)
+      pub asked : (κs : Lifetimes.Lfts 7) → (qs : Lifetimes.Shares 7) → (a : Kinds.Dens κs ps) → (good : Kinds.GoodsP κs ps a) → (pre : Pre· κs a) → (bs : List.List Nat.ℕ) → Φ (Any.wantQ 7
+          ps r xs m κs qs a (Post· κs a)) (Function.init 7 ps r xs m κs qs a)
       asked κs qs a good pre bs = laid record
-          { κs = κs; args = record { s = a .0; ws = a .1 .0; t = a .1 .1 .0; two = a .1 .1 .1 .0; rec = a .1 .1 .1 .1 .0; pairs = a .1 .1 .1 .1 .1 .0; infos = a .1 .1 .1 .1 .1 .1 .0; line = a .1 .1 .1 .1 .1 .1 .1 .0; full = a .1 .1 .1 .1 .1 .1 .1 .1 .0 }; blocks = bs; good = good; pre = pre }
+          { κs = κs; args = record { s = a .0; ws = a .1 .0; t = a .1 .1 .0; two = a .1 .1 .1 .0; rec = a .1 .1 .1 .1 .0; pairs = a .1 .1 .1 .1 .1 .0; infos = a .1 .1 .1 .1 .1 .1 .0; line = a .1 .1 .1 .1 .1 .1 .1 .0; full = a .1 .1 .1 .1 .1 .1 .1 .1 .0 }; good = good; pre = pre }
 
       pub spec : {M : Type 1} → Closed M
-      spec U H A W C known0 known1 known2 known3 = Plain.t-fn-plain U H A W C 7 ps r xs m hs body (λ κs qs bs. Φ bs) (λ κs qs bs bd. typed κs qs U H A W C (known0, known1, known2, known3) bs
+      spec U H A W C known0 known1 known2 known3 = Plain.t-fn-plain U H A W C 7 ps r xs m hs body (λ κs qs bs. Φ) (λ κs qs bs bd. typed κs qs U H A W C (known0, known1, known2, known3) bs
           bd) Pre· Post· asked

@@ -54,9 +54,6 @@ After-rec = Lts.After-rec claims Reads''.Pre Reads''.Post
 abbrev pub After-slice-known4 : Type 0
 After-slice-known4 = Lts.After-slice-known4 claims Reads''.Pre Reads''.Post
 
-abbrev pub After-piece : Type 0
-After-piece = Lts.After-piece claims Reads''.Pre Reads''.Post
-
 abbrev pub After-struct-known : Type 0
 After-struct-known = Lts.After-struct-known claims Reads''.Pre Reads''.Post
 
@@ -92,9 +89,6 @@ After-respond = Lts.After-respond claims Reads''.Pre Reads''.Post
 
 abbrev pub After-t : Type 0
 After-t = Lts.After-t claims Reads''.Pre Reads''.Post
-
-abbrev pub After-after : Type 0
-After-after = Lts.After-after claims Reads''.Pre Reads''.Post
 
 abbrev pub After-tell-all-arg : Type 0
 After-tell-all-arg = Lts.After-tell-all-arg claims Reads''.Pre Reads''.Post
