@@ -13,7 +13,8 @@ use Rattle.keys.specs.declared.Last.{Last}
 use Rattle.keys.specs.declared.Last.the-variants as last
 use Rattle.keys.specs.declared.Issued.{Issued}
 use Rattle.keys.specs.declared.Issued.the-variants as issued
-use Rattle.model.specs.Topic.{Topic, Entry, Limits, update, add, removeBefore, range, refused, key, found, step, places, limitsFit, raised, wider, removal, collects, collectEvery, collectedFor, adding, holdsPair, within, seqFits}
+use Rattle.model.specs.Topic.{Topic, Entry, Limits, update, add, removeBefore, range, refused, key, found, step, places, limitsFit, raised, wider, removal, collects, collectEvery, collectedFor, adding, holdsPair, within}
+use Rattle.sampleinfo.specs.Formed.{seqFits}
 use Rattle.model.proofs.Topic.{must-le}
 use Rattle.changes.specs.Places.{Holds, Writer, Written, wordsOf, shownIn, entriesIn, entryOf, Ranging, Copying}
 use Rattle.changes.specs.LookLaws.{written-within}

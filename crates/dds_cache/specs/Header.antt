@@ -9,7 +9,8 @@ use lib.Dec.{ltb, leb, eqb}
 use lib.ListN.{length}
 use Rattle.keys.specs.declared.Last.{Last}
 use Rattle.keys.specs.declared.Last.the-variants as last
-use Rattle.model.specs.Topic.{Topic, Entry, Limits, Change, Step, Answer, refused, ok, key, heldAlready, found, update, add, removeBefore, range, step, seqFits, places, limitsFit, raised, fresh, removal, collectEvery, collectedFor, adding}
+use Rattle.model.specs.Topic.{Topic, Entry, Limits, Change, Step, Answer, refused, ok, key, heldAlready, found, update, add, removeBefore, range, step, places, limitsFit, raised, fresh, removal, collectEvery, collectedFor, adding}
+use Rattle.sampleinfo.specs.Formed.{seqFits}
 use Rattle.changes.specs.Places.{Holds, Writer, Written, wordsOf, shownIn, entriesIn}
 use Rattle.changes.specs.declared.CacheChange.{CacheChange}
 use Rattle.dds_cache.specs.declared.History.{History}

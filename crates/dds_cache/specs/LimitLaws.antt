@@ -8,8 +8,7 @@ use native.Mathlib.Omega.{arith}
 use borrow.Author.Tests.{le-leb, lt-leb, eq-eqb, ne-eqb}
 use lib.Dec.{T, leb, leb→le}
 use lib.ListN.{length}
-use Rattle.sampleinfo.specs.Formed as formed
-use Rattle.model.specs.Topic.{Entry, Limits, places, inBounds, limitsFit, raised, deeper, wider, seqFits, mayFor, removal, countBelow, collectEvery}
+use Rattle.model.specs.Topic.{Entry, Limits, places, inBounds, limitsFit, raised, deeper, wider, mayFor, removal, countBelow, collectEvery}
 use Rattle.dds_cache.specs.declared.History.{History}
 use Rattle.dds_cache.specs.declared.History.the-variants.{KeepAll, KeepLast}
 use Rattle.dds_cache.specs.declared.KeepLimits.{KeepLimits}
@@ -120,13 +119,6 @@ module _ (l : Limits) (es : List Entry) (sn size m r : ℕ) (e : m ≡ collectEv
     pub drops-none : held < places → 0 ≡ dropsFor l es sn size
     unfolding dropsFor
     drops-none f = rw (← e, ne-eqb (sn % m) 0 n, lt-leb places (length es) (omega arith))
-
--- ---- numbers
-
--- the topic cache's range of sequence numbers is the cache's
-pub seq-is : (b : Bool) (sn : ℕ) → b ≡ formed.seqFits sn → b ≡ seqFits sn
-unfolding seqFits
-seq-is b sn e = e
 
 -- ---- the step by the payload's length, by the tests that the code makes
 

@@ -15,7 +15,8 @@ use Rattle.keys.specs.declared.Last.{Last}
 use Rattle.keys.specs.declared.Last.the-variants as last
 use Rattle.keys.specs.declared.Issued.{Issued}
 use Rattle.keys.specs.declared.Issued.the-variants as issued
-use Rattle.model.specs.Topic.{Entry, Limits, Topic, Change, Call, update, add, removeBefore, range, refused, ok, key, heldAlready, found, Step, places, inBounds, depthFits, limitsFit, raisedTo, raised, deeper, wider, mayFor, countBelow, removal, removedBefore, collected, collectEvery, collects, collectedFor, holdsPair, sameBytes, entryOf, refuse, issuing, seqFits, within, fresh, step}
+use Rattle.model.specs.Topic.{Entry, Limits, Topic, Change, Call, update, add, removeBefore, range, refused, ok, key, heldAlready, found, Step, places, inBounds, depthFits, limitsFit, raisedTo, raised, deeper, wider, mayFor, countBelow, removal, removedBefore, collected, collectEvery, collects, collectedFor, holdsPair, sameBytes, entryOf, refuse, issuing, within, fresh, step}
+use Rattle.sampleinfo.specs.Formed.{seqFits}
 use Rattle.model.specs.Bounds.{and-is, le-is}
 use Rattle.model.specs.TopicPromises.{run, keyIn, issuedBy, Rises, keysOf, isPair, times, FromTheOldest, NoLaterKey}
 use Rattle.model.specs.TopicPromises.{AtLeast, Higher, LimitBounds, Raised, Greater}
@@ -474,7 +475,6 @@ later-refused : (c : Topic) (time k : ℕ) → time < 2 ^ 64 → NoLaterKey c �
 later-refused c time k h n e = let z : _≡_ {A = ℕ} 0 6 = ap issuedNumber (sym e) ∙ none-refused (c .last) time h n in omega arith
 
 in-range : (s : ℕ) → (seqFits s ≡ true) ↔ InRange s
-unfolding seqFits
 in-range s = and-is (le-is 1 s) (ltb-true s (2 ^ 63), lt-ltb s (2 ^ 63))
 
 answers : (c first : Topic) (x : Change) {y : Step} → Done c (add x) y → first ≡ left c (dropsIn c x) → x .time < 2 ^ 64 → AddAnswers c first x y

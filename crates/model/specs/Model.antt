@@ -2,11 +2,12 @@
 use mathlib.Core.Bool.{Bool, true, false, _&&_, _||_, not, cond}
 use mathlib.Core.List.{List, [], _∷_, _++_, map}
 use mathlib.Core.Option.{Option, some, none}
-use Prim.Native.Nat.{ℕ, zero, suc, _+_, _*_, _^_}
+use Prim.Native.Nat.{ℕ, zero, suc, _+_, _*_}
 use lib.ListN.{length, drop, replicate}
 use lib.Dec.{ltb, leb, eqb}
 use lib.IntN.{ℤ, pos, negsuc}
 use Rattle.sampleinfo.specs.States.{handleOf, madeBy}
+use Rattle.sampleinfo.specs.Formed.{formed, bodyFor}
 use Rattle.sampleinfo.specs.Counts.{total}
 use Rattle.sampleinfo.specs.Lifecycle.{meta, stateOf, countsOf, accessedOf, newInstance, isLast, becomes, noWritersOf}
 use Rattle.sampleinfo.specs.Samples.{unread, markedRead, sampleStateOf, totalOf}
@@ -14,7 +15,6 @@ use Rattle.sampleinfo.specs.declared.ViewState.{ViewState}
 use Rattle.sampleinfo.specs.declared.InstanceState.{InstanceState}
 use Rattle.sampleinfo.specs.declared.InstanceMetaData.{InstanceMetaData}
 use Rattle.sampleinfo.specs.declared.Body.{Body}
-use Rattle.sampleinfo.specs.declared.Body.the-variants.{Value, Dispose}
 use Rattle.sampleinfo.specs.declared.Sample.{Sample}
 use Rattle.sampleinfo.specs.declared.Info.{Info}
 use Rattle.sampleinfo.specs.declared.Ranks.{Ranks}
@@ -203,10 +203,10 @@ pushedOut (some d) (held s ∷ ps) = some (handleOf (s .sample .body))
 
 -- refusal 1: "kind not 1 or 2, sequence number out of range"
 unfoldable pub wellFormed : Arrival → Bool
-wellFormed a = (eqb (a .kind) 1 || eqb (a .kind) 2) && (leb 1 (a .seq) && ltb (a .seq) (2 ^ 63))
+wellFormed a = formed (a .kind) (a .seq)
 
 abbrev pub bodyIn : Arrival → Body
-bodyIn a = cond (eqb (a .kind) 2) (Dispose (a .handle)) (Value (a .handle))
+bodyIn a = bodyFor (a .kind) (a .handle)
 
 abbrev pub stateIn : Arrival → InstanceState
 stateIn a = madeBy (bodyIn a)

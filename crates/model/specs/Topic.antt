@@ -2,9 +2,10 @@
 use mathlib.Core.Bool.{Bool, true, false, _&&_, _||_, not, cond}
 use mathlib.Core.List.{List, [], _∷_, _++_}
 use mathlib.Core.Option.{Option, some, none}
-use Prim.Native.Nat.{ℕ, _+_, _-_, _%_, _^_, max, min}
+use Prim.Native.Nat.{ℕ, _+_, _-_, _%_, max, min}
 use lib.ListN.{length, drop}
 use lib.Dec.{ltb, leb, eqb}
+use Rattle.sampleinfo.specs.Formed.{seqFits}
 use Rattle.keys.specs.Keys.{keyOf}
 use Rattle.keys.specs.declared.Last.{Last}
 use Rattle.keys.specs.declared.Last.the-variants as last
@@ -164,9 +165,6 @@ issuing was now x (issued.Key k) = record { answer = key k; then = record { limi
 abbrev pub adding : Topic → Topic → Change → Step
 adding was now x =
     cond (holdsPair (x .writer) (x .seq) (now .entries)) (record { answer = heldAlready; then = now }) (issuing was now x (keyOf (now .last) (x .time)))
-
-unfoldable pub seqFits : ℕ → Bool
-seqFits s = leb 1 s && ltb s (2 ^ 63)
 
 -- "The range gives the entries with keys above start and up to end, in key order"
 unfoldable pub within : ℕ → ℕ → List Entry → List Entry

@@ -19,7 +19,8 @@ use Rattle.keys.specs.declared.Last.the-variants as last
 use Rattle.keys.specs.declared.Issued.{Issued}
 use Rattle.keys.specs.declared.Issued.the-variants as issued
 use Rattle.model.specs.Topic.{Limits, defaults}
-use Rattle.model.specs.Topic.{Entry, Topic, Change, places, inBounds, depthFits, limitsFit, raisedTo, deeper, mustRemove, mayRemove, mayFor, countBelow, removal, removedBefore, collects, collectedFor, sameBytes, holdsPair, entryOf, seqFits, Call, update, add, removeBefore, range, Step, issuing, adding, fresh, within, step}
+use Rattle.model.specs.Topic.{Entry, Topic, Change, places, inBounds, depthFits, limitsFit, raisedTo, deeper, mustRemove, mayRemove, mayFor, countBelow, removal, removedBefore, collects, collectedFor, sameBytes, holdsPair, entryOf, Call, update, add, removeBefore, range, Step, issuing, adding, fresh, within, step}
+use Rattle.sampleinfo.specs.Formed.{seqFits}
 use Rattle.model.specs.Story.{Every}
 use Rattle.model.proofs.Laws.{every-imp, every-append, every-drop, map-append}
 use Rattle.model.proofs.Refusals.{both}

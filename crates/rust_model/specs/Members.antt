@@ -47,5 +47,5 @@ changes t s size = T.add (record { time = t; writer = replicate 16 0; seq = s; h
 -- an add, one that collects and is held already, a removal and a range
 pub topic-ground-has-members : TopicEqual.Ground (T.fresh T.defaults)
     (changes 100 1 10 ∷ changes 100 1 70000 ∷ changes 90 8 2000 ∷ T.removeBefore 101 ∷ T.range 0 200 1 ∷ [])
-unfolding T.step T.seqFits T.collects T.removal T.countBelow T.holdsPair T.sameBytes T.within K.keyOf
+unfolding T.step T.collects T.removal T.countBelow T.holdsPair T.sameBytes T.within K.keyOf
 topic-ground-has-members = (omega arith, refl, (omega arith, refl, (omega arith, refl, (omega arith, refl, (omega arith, refl, tt)))))

@@ -4,7 +4,6 @@ use mir.Val.{Fits}
 use mir.Syntax.{w8}
 use Rattle.changes.specs.Places.{Writer}
 use Rattle.dds_cache.specs.CallLaws.{adds-bad, adds-good}
-use Rattle.dds_cache.specs.LimitLaws.{seq-is}
 use Rattle.dds_cache.proofs.TopicCache.add_change.Statement.{statement}
 use Rattle.dds_cache.proofs.TopicCache.add_change.Tie as tie
 
@@ -18,10 +17,10 @@ add-change-internal-requires : tie.Need-add-change-internal-requires
 add-change-internal-requires c κs = search needs
 
 returns : tie.Need-returns
-returns c = adds-good _ _ _ _ (writer (c .before .before .before .before)) _ (seq-is _ _ (c .before .before .before .sequence-number-fits .ensures)) (c .before .before .if1 .taken) _ _ (c .add-change-internal .ensures)
+returns c = adds-good _ _ _ _ (writer (c .before .before .before .before)) _ (c .before .before .before .sequence-number-fits .ensures) (c .before .before .if1 .taken) _ _ (c .add-change-internal .ensures)
 
 returns-2 : tie.Need-returns-2
-returns-2 c = adds-bad _ _ _ _ (writer (c .before .before)) _ (seq-is _ _ (c .before .sequence-number-fits .ensures)) (c .if1 .left)
+returns-2 c = adds-bad _ _ _ _ (writer (c .before .before)) _ (c .before .sequence-number-fits .ensures) (c .if1 .left)
 
 pub add-change-spec : {M : Type 1} → statement M
 add-change-spec =
