@@ -8,7 +8,7 @@ use Rattle.sampleinfo.specs.Counts.{disposedCount, noWritersCount}
 use Rattle.sampleinfo.specs.Samples.{totalOf}
 use Rattle.sampleinfo.specs.declared.Sample.{Sample}
 use Rattle.sampleinfo.specs.declared.Info.{Info}
-use Rattle.model.specs.Model.{Model, Instance, Call, setUp, add, dies, look, list, after, Answer, refused, ok, added, selected, infos, next, liveIn}
+use Rattle.model.specs.Model.{Model, Instance, Call, setUp, add, noWriters, choose, readOrTake, nextKey, Answer, refused, ok, added, selected, infos, next, liveIn}
 
 -- refusal 7 keeps the total; a handle has 32 bits
 pub record Small (s : Sample) : Type 0 where
@@ -25,10 +25,10 @@ AllSmall m = Every SmallIn (m .instances)
 abbrev pub SmallCall : Call → Type 0
 SmallCall (setUp u) = Unit {0}
 SmallCall (add a) = a .handle < 2 ^ 32
-SmallCall (dies n) = Unit {0}
-SmallCall (look w c room) = Unit {0}
-SmallCall (list t ps room) = Unit {0}
-SmallCall (after n) = Unit {0}
+SmallCall (noWriters n) = Unit {0}
+SmallCall (choose w c room) = Unit {0}
+SmallCall (readOrTake t ps room) = Unit {0}
+SmallCall (nextKey n) = Unit {0}
 
 -- what an info line prints: a handle and counts of 32 bits, ranks of 64 with a sign
 pub record SmallInfo (x : Info) : Type 0 where

@@ -16,7 +16,7 @@ use Rattle.sampleinfo.specs.Lifecycle.{countsOf, becomes}
 use Rattle.sampleinfo.specs.Samples.{unread, totalOf}
 use Rattle.sampleinfo.specs.declared.Ranks.{Ranks}
 use Rattle.model.specs.Pairs.{Pair}
-use Rattle.model.specs.Model.{Model, Instance, Live, Arrival, SetUp, Call, setUp, add, dies, look, list, after, Place, gone, held, find, put, liveIn, lives, push, mark, listedIn, touch, listed, left, oldOf, refusalOf, arrived, bodyIn, stateIn, accept, adding, dying, access, accessing, fine, within, keepOf, fresh, settingUp, step, keyed, named, latest, latestTotal, instanceTotal, lastTotal, Edition, byTheRust, ranksAt, infoOf, infoAt, infosOf, choices, choosing, scope}
+use Rattle.model.specs.Model.{Model, Instance, Live, Arrival, SetUp, Call, setUp, add, noWriters, choose, readOrTake, nextKey, Place, gone, held, find, put, liveIn, lives, push, mark, listedIn, touch, listed, left, oldOf, refusalOf, arrived, bodyIn, stateIn, accept, adding, dying, access, accessing, fine, within, keepOf, fresh, settingUp, step, keyed, named, latest, latestTotal, instanceTotal, lastTotal, Edition, byTheRust, ranksAt, infoOf, infoAt, infosOf, choices, choosing, scope}
 use Rattle.model.proofs.Laws.{put-there, put-here}
 use Rattle.model.proofs.Counting.{window-live}
 use Rattle.model.specs.PairLaws.{split}
@@ -119,10 +119,10 @@ pub small-step : (m : Model) → Good m → AllSmall m → (c : Call) → SmallC
 unfolding step
 small-step m g h (setUp u) c = small-settingUp m h u
 small-step m g h (add a) c = small-adding m g h a c
-small-step m g h (dies n) c = small-dying m h n
-small-step m g h (look w x room) c = h
-small-step m g h (list t ps room) c = small-accessing t m h ps room
-small-step m g h (after n) c = h
+small-step m g h (noWriters n) c = small-dying m h n
+small-step m g h (choose w x room) c = h
+small-step m g h (readOrTake t ps room) c = small-accessing t m h ps room
+small-step m g h (nextKey n) c = h
 
 -- ---- what a list shows: in edition 1 ranks are of two totals, of an instance or of a live sample each
 
@@ -201,13 +201,13 @@ pub small-answer : (m : Model) → Good m → AllSmall m → (c : Call) → Smal
 unfolding step settingUp adding accept choosing
 small-answer m g h (setUp u) = split (within u) (λ e. rw e tt) (λ e. rw e tt)
 small-answer m g h (add a) = split (eqb (refusalOf m a) 0) (λ e. rw e tt) (λ e. rw e tt)
-small-answer m g h (dies n) = go (find n (m .instances))
+small-answer m g h (noWriters n) = go (find n (m .instances))
   where
     go : (o : Option Instance) → SmallAnswer (dying m o .answer)
     go none = tt
     go (some i) = tt
-small-answer m g h (look w x room) = split (isValid x)
+small-answer m g h (choose w x room) = split (isValid x)
     (λ e. split (leb (length (choices x (scope w (m .instances)))) room) (λ l. rw (e, l) tt) (λ l. rw (e, l) tt))
     (λ e. rw e tt)
-small-answer m g h (list t ps room) = small-shown m g h t ps room
-small-answer m g h (after n) = tt
+small-answer m g h (readOrTake t ps room) = small-shown m g h t ps room
+small-answer m g h (nextKey n) = tt

@@ -34,7 +34,7 @@ Told (M.next n) x out after = ⊥
 -- refusal 1 where the "key list [is] not of whole pairs", else the model's step
 unfoldable pub listing : Model → Bool → List ℕ → ℕ → Step
 unfolding step pairsOf wholePairs
-listing m take list room = let done : Step = step m (Call.list take (pairsOf list) room) in cond (wholePairs list) done (refuse m 1)
+listing m take list room = let done : Step = step m (Call.readOrTake take (pairsOf list) room) in cond (wholePairs list) done (refuse m 1)
 
 pub record Came (st : Step) (r : ListOutcome) (ws : List ℕ) (t : List Sample) (out after : List ℕ) : Type 0 where
   pub answer : Told (st .answer) (r .answer) out after

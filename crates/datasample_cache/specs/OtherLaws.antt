@@ -232,7 +232,7 @@ module _ (h : Cache) (ws after : List ℕ) (n code : ℕ) (left : (s : Store) �
   code-is : code ≡ codeOf (went .answer)
   code-is = left (storeOf m) held-is .code ∙ ap (λ (e : S.Event). e .code) (dying-is m n)
 
-  pub dies-ok : code ≡ 0 → Dies (step m (M.dies n)) reply.Ok h after t
+  pub dies-ok : code ≡ 0 → Dies (step m (M.noWriters n)) reply.Ok h after t
   unfolding step
   dies-ok e = record { answer = go (find n (m .instances)) (sym e ∙ code-is); lies = lies-on }
     where
@@ -240,7 +240,7 @@ module _ (h : Cache) (ws after : List ℕ) (n code : ℕ) (left : (s : Store) �
       go none q = absurd (omega arith)
       go (some i) q = refl
 
-  pub dies-refused : (code ≡ 0 → ⊥) → Dies (step m (M.dies n)) (reply.Refused code) h after t
+  pub dies-refused : (code ≡ 0 → ⊥) → Dies (step m (M.noWriters n)) (reply.Refused code) h after t
   unfolding step
   dies-refused e = record { answer = go (find n (m .instances)) code-is; lies = lies-on }
     where
@@ -255,7 +255,7 @@ next-same none = refl
 next-same (some k) = refl
 
 pub next-is′ : (h : Cache) (ws : List ℕ) (n : ℕ) (r : Next) → ((s : Store) → Held s (h .held) ws → r ≡ nextOf (S.nextName n (s .insts)))
-    → (m : Model) (t : List Sample) → Good m → Lies m h ws t → step m (M.after n) ≡ record { answer = nextAs r; then = m }
+    → (m : Model) (t : List Sample) → Good m → Lies m h ws t → step m (M.nextKey n) ≡ record { answer = nextAs r; then = m }
 unfolding step
 next-is′ h ws n r f m t g l =
     ap (λ (x : M.Answer). record { answer = x; then = m })

@@ -334,7 +334,7 @@ pub fn set_up(
 // ---- the no-writers event, and the next key: the table is not asked
 
 pub fn no_writers(h: index::Cache, ws: &mut [u64; 928], instance: u64) -> Reply
-    ensures { λ r. ⌜ ((m : Model) (t : List Sample) → Good m → Lies m h (now (ws .entry)) t → Dies (step m (Call.dies instance)) r h (now (ws .exit)) t) ⌝ }
+    ensures { λ r. ⌜ ((m : Model) (t : List Sample) → Good m → Lies m h (now (ws .entry)) t → Dies (step m (Call.noWriters instance)) r h (now (ws .exit)) t) ⌝ }
 {
     let n = change::no_writers(ws, h.held, instance);
     if n == 0 {
@@ -344,7 +344,7 @@ pub fn no_writers(h: index::Cache, ws: &mut [u64; 928], instance: u64) -> Reply
 }
 
 pub fn next_key(h: index::Cache, ws: &[u64; 928], instance: u64) -> lookup::Next
-    ensures { λ r. ⌜ ((m : Model) (t : List Sample) → Good m → Lies m h (now (ws .entry)) t → step m (Call.after instance) ≡ record { answer = nextAs r; then = m }) ⌝ }
+    ensures { λ r. ⌜ ((m : Model) (t : List Sample) → Good m → Lies m h (now (ws .entry)) t → step m (Call.nextKey instance) ≡ record { answer = nextAs r; then = m }) ⌝ }
 {
     lookup::next_key(ws, h.held, instance)
 }

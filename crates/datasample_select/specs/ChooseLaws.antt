@@ -11,7 +11,7 @@ use Rattle.sampleinfo.specs.declared.Sample.{Sample}
 use Rattle.readcondition.specs.Masks.{isValid}
 use Rattle.readcondition.specs.declared.ReadCondition.{ReadCondition}
 use Rattle.model.specs.Pairs.{Pair, Hit, pairsIn, sorted}
-use Rattle.model.specs.Model.{Model, Answer, refused, selected, look, step, hits, scope, choosing}
+use Rattle.model.specs.Model.{Model, Answer, refused, selected, choose, step, hits, scope, choosing}
 use Rattle.store.specs.Store.{Store}
 use Rattle.store.specs.Choosing.{hitsFrom}
 use Rattle.index.specs.Memory.{Tied}
@@ -33,7 +33,7 @@ use Rattle.datasample_select.specs.Slots.{slots-sorted}
 
 -- the answer on the store and the table is the model's
 pub selecting-is : (m : Model) → Good m → (c : ReadCondition) (w : Option ℕ) (room : ℕ)
-    → selecting c (hitsFrom 256 0 (storeOf m) (tableOf m) c w) room ≡ step m (look w c room) .answer
+    → selecting c (hitsFrom 256 0 (storeOf m) (tableOf m) c w) room ≡ step m (choose w c room) .answer
 unfolding selecting step choosing
 selecting-is m g c w room =
     let hs : List Hit = hitsFrom 256 0 (storeOf m) (tableOf m) c w in
@@ -45,14 +45,14 @@ selecting-is m g c w room =
 pub choose-done : (h : Cache) (ws seen l : List ℕ) (t : List Sample) (c : ReadCondition) (w : Option ℕ) (r : Chosen) (was out : List ℕ)
     → ((s : Store) (u : List Sample) → Tied s h ws → Seen u seen → Told (selecting c (hitsFrom 256 0 s u c w) (length was / 2)) r was out)
     → seen ≡ gathered 256 0 t l → length l ≡ 768
-    → (m : Model) → Good m → Lies m h ws t → Told (step m (look w c (length was / 2)) .answer) r was out
+    → (m : Model) → Good m → Lies m h ws t → Told (step m (choose w c (length was / 2)) .answer) r was out
 choose-done h ws seen l t c w r was out told e long m g lies =
     let q : Seen t seen = subst (λ (x : List ℕ). Seen t x) (sym e) (gathered-seen t l long) in
     let here : Told (selecting c (hitsFrom 256 0 (storeOf m) t c w) (length was / 2)) r was out = told (storeOf m) t (tied m h ws t g lies) q in
     subst (λ (a : Answer). Told a r was out) (ap (λ (x : List Sample). selecting c (hitsFrom 256 0 (storeOf m) x c w) (length was / 2)) (lies .table) ∙ selecting-is m g c w (length was / 2)) here
 
 pub choose-no-table : (h : Cache) (ws : List ℕ) (t : List Sample) (c : ReadCondition) (w : Option ℕ) (room : ℕ) (r : Chosen) (was : List ℕ)
-    → (length t ≡ 256 → ⊥) → (m : Model) → Good m → Lies m h ws t → Told (step m (look w c room) .answer) r was was
+    → (length t ≡ 256 → ⊥) → (m : Model) → Good m → Lies m h ws t → Told (step m (choose w c room) .answer) r was was
 choose-no-table h ws t c w room r was n m g lies = absurd (n (table-long m h ws t lies))
 
 -- a choice that is refused writes nothing

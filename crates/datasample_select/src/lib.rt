@@ -25,7 +25,7 @@ pub fn choose(
     rc: readcondition::ReadCondition,
     out: &mut [u64],
 ) -> select::Chosen
-    ensures { λ r. ⌜ ((m : Model) → Good m → Lies m h (now (ws .entry)) (now (t .entry)) → Told (step m (Call.look (scopeOf within) rc (length (now (out .entry)) / 2)) .answer) r (now (out .entry)) (now (out .exit))) ⌝ }
+    ensures { λ r. ⌜ ((m : Model) → Good m → Lies m h (now (ws .entry)) (now (t .entry)) → Told (step m (Call.choose (scopeOf within) rc (length (now (out .entry)) / 2)) .answer) r (now (out .entry)) (now (out .exit))) ⌝ }
     ensures { λ r. ⌜ (Unfit (now (t .entry)) rc → (r ≡ notChosen) × (now (out .exit) ≡ now (out .entry))) ⌝ }
 {
     if t.len() != 256 {
@@ -45,7 +45,7 @@ pub fn choose_within(
     rc: readcondition::ReadCondition,
     out: &mut [u64],
 ) -> select::Chosen
-    ensures { λ r. ⌜ ((m : Model) → Good m → Lies m h (now (ws .entry)) (now (t .entry)) → Told (step m (Call.look (some instance) rc (length (now (out .entry)) / 2)) .answer) r (now (out .entry)) (now (out .exit))) ⌝ }
+    ensures { λ r. ⌜ ((m : Model) → Good m → Lies m h (now (ws .entry)) (now (t .entry)) → Told (step m (Call.choose (some instance) rc (length (now (out .entry)) / 2)) .answer) r (now (out .entry)) (now (out .exit))) ⌝ }
     ensures { λ r. ⌜ (Unfit (now (t .entry)) rc → (r ≡ notChosen) × (now (out .exit) ≡ now (out .entry))) ⌝ }
 {
     choose(h, ws, t, select::Within::Instance(instance), rc, out)

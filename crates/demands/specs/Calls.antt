@@ -60,22 +60,22 @@ pub data Called : Call → Memory → Seen → Memory → Type 0 where
       → Called (M.add (arrival n w q time kind x)) (holding h ws t) (said (addedAs (r .answer))) (holding (r .head) ws′ t′)
   no-writers : (κs : Lfts 1) (h : Cache) (ws ws′ : RefT (List ℕ)) (t : RefT (List Sample)) (n : ℕ) (r : Reply)
       → of-no-writers.Learnt κs (h, (ws, (n, tt))) r (h, (ws′, (n, tt)))
-      → Called (M.dies n) (holding h ws t) (said (replyAs r)) (holding h ws′ t)
+      → Called (M.noWriters n) (holding h ws t) (said (replyAs r)) (holding h ws′ t)
   next-key : (κs : Lfts 1) (h : Cache) (ws : RefT (List ℕ)) (t : RefT (List Sample)) (n : ℕ) (r : Next)
       → of-next-key.Learnt κs (h, (ws, (n, tt))) r (h, (ws, (n, tt)))
-      → Called (M.after n) (holding h ws t) (said (nextAs r)) (holding h ws t)
+      → Called (M.nextKey n) (holding h ws t) (said (nextAs r)) (holding h ws t)
   choose : (κs : Lfts 3) (h : Cache) (ws : RefT (List ℕ)) (t : RefT (List Sample)) (w : Within) (c : ReadCondition) (out out′ : RefT (List ℕ)) (r : Chosen)
       → of-choose.Learnt κs (h, (ws, (t, (w, (c, (out, tt)))))) r (h, (ws, (t, (w, (c, (out′, tt))))))
-      → Called (M.look (scopeOf w) c (length (now out) / 2)) (holding h ws t) (said (answerOf r (now out′))) (holding h ws t)
+      → Called (M.choose (scopeOf w) c (length (now out) / 2)) (holding h ws t) (said (answerOf r (now out′))) (holding h ws t)
   choose-within : (κs : Lfts 3) (h : Cache) (ws : RefT (List ℕ)) (t : RefT (List Sample)) (n : ℕ) (c : ReadCondition) (out out′ : RefT (List ℕ)) (r : Chosen)
       → of-choose-within.Learnt κs (h, (ws, (t, (n, (c, (out, tt)))))) r (h, (ws, (t, (n, (c, (out′, tt))))))
-      → Called (M.look (some n) c (length (now out) / 2)) (holding h ws t) (said (answerOf r (now out′))) (holding h ws t)
+      → Called (M.choose (some n) c (length (now out) / 2)) (holding h ws t) (said (answerOf r (now out′))) (holding h ws t)
   read : (κs : Lfts 4) (h : Cache) (ws ws′ : RefT (List ℕ)) (t t′ : RefT (List Sample)) (keys out out′ : RefT (List ℕ)) (r : ListOutcome)
       → wholePairs (now keys) ≡ true → of-read.Learnt κs (h, (ws, (t, (keys, (out, tt))))) r (h, (ws′, (t′, (keys, (out′, tt)))))
-      → Called (M.list false (pairsOf (now keys)) (placesIn (now out))) (holding h ws t) (shown (r .answer) (now out) (now out′)) (holding (r .head) ws′ t′)
+      → Called (M.readOrTake false (pairsOf (now keys)) (placesIn (now out))) (holding h ws t) (shown (r .answer) (now out) (now out′)) (holding (r .head) ws′ t′)
   take : (κs : Lfts 4) (h : Cache) (ws ws′ : RefT (List ℕ)) (t t′ : RefT (List Sample)) (keys out out′ : RefT (List ℕ)) (r : ListOutcome)
       → wholePairs (now keys) ≡ true → of-take.Learnt κs (h, (ws, (t, (keys, (out, tt))))) r (h, (ws′, (t′, (keys, (out′, tt)))))
-      → Called (M.list true (pairsOf (now keys)) (placesIn (now out))) (holding h ws t) (shown (r .answer) (now out) (now out′)) (holding (r .head) ws′ t′)
+      → Called (M.readOrTake true (pairsOf (now keys)) (placesIn (now out))) (holding h ws t) (shown (r .answer) (now out) (now out′)) (holding (r .head) ws′ t′)
 
 -- a call with a key list not of whole pairs
 pub data OddCalled : Memory → Seen → Memory → Type 0 where
@@ -101,13 +101,13 @@ by-set-up u h r ws after t then f m g l = go (within u) refl
     go false w = let x = f .out-of-bounds (table-long m h ws t l) w in (rw (x .0), rw (x .0, x .1, x .2) l)
 
 -- a list of whole pairs, and any other
-listing-whole : (m : Model) (b : Bool) (keys : List ℕ) (room : ℕ) (P : Step → Type 0) → wholePairs keys ≡ true → P (listing m b keys room) → P (step m (M.list b (pairsOf keys) room))
+listing-whole : (m : Model) (b : Bool) (keys : List ℕ) (room : ℕ) (P : Step → Type 0) → wholePairs keys ≡ true → P (listing m b keys room) → P (step m (M.readOrTake b (pairsOf keys) room))
 unfolding listing
-listing-whole m b keys room P w x = subst (λ (c : Bool). P (cond c (step m (M.list b (pairsOf keys) room)) (M.refuse m 1))) w x
+listing-whole m b keys room P w x = subst (λ (c : Bool). P (cond c (step m (M.readOrTake b (pairsOf keys) room)) (M.refuse m 1))) w x
 
 listing-odd : (m : Model) (b : Bool) (keys : List ℕ) (room : ℕ) (P : Step → Type 0) → wholePairs keys ≡ false → P (listing m b keys room) → P (M.refuse m 1)
 unfolding listing
-listing-odd m b keys room P w x = subst (λ (c : Bool). P (cond c (step m (M.list b (pairsOf keys) room)) (M.refuse m 1))) w x
+listing-odd m b keys room P w x = subst (λ (c : Bool). P (cond c (step m (M.readOrTake b (pairsOf keys) room)) (M.refuse m 1))) w x
 
 pub called-meets : {c : Call} {x y : Memory} {a : Seen} → Called c x a y → Meets c x a y
 unfolding M.step

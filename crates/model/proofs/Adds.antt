@@ -12,7 +12,7 @@ use Rattle.sampleinfo.specs.declared.InstanceState.{InstanceState}
 use Rattle.sampleinfo.specs.declared.InstanceState.the-variants.{Alive, NotAliveDisposed, NotAliveNoWriters}
 use Rattle.sampleinfo.specs.declared.InstanceMetaData.{InstanceMetaData}
 use Rattle.sampleinfo.specs.declared.NotAliveGenerationCounts.{NotAliveGenerationCounts}
-use Rattle.model.specs.Model.{Model, Instance, Live, Arrival, Place, gone, held, Step, add, dies, added, find, put, liveIn, push, pushedOut, left, dying, oldOf, issueOf, keyIn, refusalOf, arrived, slotOf, accept, step}
+use Rattle.model.specs.Model.{Model, Instance, Live, Arrival, Place, gone, held, Step, add, noWriters, added, find, put, liveIn, push, pushedOut, left, dying, oldOf, issueOf, keyIn, refusalOf, arrived, slotOf, accept, step}
 use Rattle.model.specs.Story.{liveAt}
 use Rattle.model.specs.Demand3.{Pushes, Adds, Leaves}
 use Rattle.model.proofs.Laws.{Done, turned, came, done, find-name, find-here, find-there, put-here, put-there, find-put-same, find-put-other}
@@ -111,7 +111,7 @@ module _ (m : Model) (n : ℕ) where
     last-stays = refl;
   }
 
-  pub leaves-step : Leaves m n (step m (dies n))
+  pub leaves-step : Leaves m n (step m (noWriters n))
   unfolding step
   leaves-step = go (find n (m .instances)) refl
     where

@@ -13,7 +13,7 @@ use Rattle.readcondition.specs.Masks.{isValid}
 use Rattle.readcondition.specs.declared.ReadCondition.{ReadCondition}
 use Rattle.model.specs.Pairs.{Pair, Hit, earlier, sorted, pairsIn}
 use Rattle.model.specs.PairLaws.{in-append, in-map, in-sorted, pair-is, not-earlier, Sorted, sorted-sorted, timesKey, times-sorted, times-append, distinct-keys, every-in, split}
-use Rattle.model.specs.Model.{Model, Instance, Live, selected, next, look, after, find, liveIn, lives, count, chosen, hitOf, hitsIn, hits, one, scope, choices, choosing, least, nextName, step}
+use Rattle.model.specs.Model.{Model, Instance, Live, selected, next, choose, nextKey, find, liveIn, lives, count, chosen, hitOf, hitsIn, hits, one, scope, choices, choosing, least, nextName, step}
 use Rattle.model.specs.Story.{Every, livesOf, liveAt}
 use Rattle.model.specs.Demand3.{In, IsAt, hasKey, InScope, Chosen, Precedes, Ordered, Selection, Looks, Nexts, timesHeld}
 use Rattle.model.proofs.Laws.{find-here, find-there, find-name}
@@ -262,7 +262,7 @@ module _ (m : Model) (once : (n : ℕ) → timesHeld n (m .instances) ≤ 1) (ke
   selection : Selection m w c (choices c scoped)
   selection = record { once = distinct-keys found few; exact = λ p. (there p, back p); in-order = in-order m found right few (sorted-sorted (hits c scoped)) }
 
-  pub looks-step : (room : ℕ) → Looks m w c room (step m (look w c room))
+  pub looks-step : (room : ℕ) → Looks m w c room (step m (choose w c room))
   unfolding step choosing
   looks-step room = record {
     unchanged = refl;
@@ -270,7 +270,7 @@ module _ (m : Model) (once : (n : ℕ) → timesHeld n (m .instances) ≤ 1) (ke
   }
 
 -- "Choosing within an unknown instance gives an empty answer."
-pub unknown-empty : (m : Model) (n : ℕ) (c : ReadCondition) (room : ℕ) → isValid c ≡ true → find n (m .instances) ≡ none → (step m (look (some n) c room)) .answer ≡ selected []
+pub unknown-empty : (m : Model) (n : ℕ) (c : ReadCondition) (room : ℕ) → isValid c ≡ true → find n (m .instances) ≡ none → (step m (choose (some n) c room)) .answer ≡ selected []
 unfolding step choosing hits sorted
 unknown-empty m n c room v f = rw (f, v, le-leb 0 room (omega arith))
 
@@ -331,7 +331,7 @@ next-is n (i ∷ is) = split (ltb n (i .name))
     (λ e. rw e (next-above n i is (ltb-true n (i .name) e) (nextName n is) (next-is n is)))
     (λ e. rw e (next-past n i is (ltb-false n (i .name) e) (nextName n is) (next-is n is)))
 
-pub nexts-step : (m : Model) (n : ℕ) → Nexts m n (step m (after n))
+pub nexts-step : (m : Model) (n : ℕ) → Nexts m n (step m (nextKey n))
 unfolding step
 nexts-step m n = go (nextName n (m .instances)) (next-is n (m .instances))
   where

@@ -12,7 +12,7 @@ use borrow.Author.Tests.{eqb-true}
 use Rattle.sampleinfo.specs.Lifecycle.{becomes}
 use Rattle.sampleinfo.specs.declared.InstanceState.{InstanceState}
 use Rattle.model.specs.Pairs.{Pair}
-use Rattle.model.specs.Model.{Model, Instance, Arrival, Call, Step, setUp, add, dies, look, list, after, held, fresh, issueOf, keyIn, stateIn, orFresh, find, arrived, liveOf, oldOf, slotOf, accept, left, listed, access, step}
+use Rattle.model.specs.Model.{Model, Instance, Arrival, Call, Step, setUp, add, noWriters, choose, readOrTake, nextKey, held, fresh, issueOf, keyIn, stateIn, orFresh, find, arrived, liveOf, oldOf, slotOf, accept, left, listed, access, step}
 use Rattle.model.specs.Story.{livesOf, liveAt, Story, Entry, run, trace, came, bereft, noted, orNew, mapO, keepAfter, tell, tellAll, storyOf, entriesIn, entriesOf, holds, untaken, lastOf}
 use Rattle.model.proofs.Laws.{Done, turned, began, came as arrival, lost, looked, went, asked, done, find-name, find-put-same, find-put-other, find-map, placesOf, places-none, places-push, places-touch, places-hold}
 use Rattle.model.specs.PairLaws.{split}
@@ -53,10 +53,10 @@ module _ (d : Option ℕ) (m : Model) (keeps : m .keep ≡ d) where
   unfolding accept access
   keep-done (turned (setUp u) r) = keeps
   keep-done (turned (add a) r) = keeps
-  keep-done (turned (dies k) r) = keeps
-  keep-done (turned (look w k room) r) = keeps
-  keep-done (turned (list t ps room) r) = keeps
-  keep-done (turned (after k) r) = keeps
+  keep-done (turned (noWriters k) r) = keeps
+  keep-done (turned (choose w k room) r) = keeps
+  keep-done (turned (readOrTake t ps room) r) = keeps
+  keep-done (turned (nextKey k) r) = keeps
   keep-done (began u e) = refl
   keep-done (arrival a e) = keeps
   keep-done (lost k i e) = keeps
@@ -69,10 +69,10 @@ module _ (d : Option ℕ) (m : Model) (keeps : m .keep ≡ d) where
     unfolding tell accept access arrived find
     told-done (turned (setUp u) r) = now
     told-done (turned (add a) r) = now
-    told-done (turned (dies k) r) = now
-    told-done (turned (look w k room) r) = now
-    told-done (turned (list t ps room) r) = now
-    told-done (turned (after k) r) = now
+    told-done (turned (noWriters k) r) = now
+    told-done (turned (choose w k room) r) = now
+    told-done (turned (readOrTake t ps room) r) = now
+    told-done (turned (nextKey k) r) = now
     told-done (began u e) = refl
     told-done (arrival a e) = split (eqb (a .name) n)
         (λ q. rw (q, ← eqb-true (a .name) n q) (told-accept a s (rw (← eqb-true (a .name) n q) at now)))

@@ -10,7 +10,7 @@ use Rattle.sampleinfo.specs.declared.InstanceState.{InstanceState}
 use Rattle.keys.specs.declared.Last.{Last}
 use Rattle.keys.specs.declared.Last.the-variants as last
 use Rattle.model.specs.Pairs.{Pair}
-use Rattle.model.specs.Model.{Model, Arrival, Call, Step, setUp, add, dies, look, list, after, Answer, fresh, listedIn, issueOf, keyIn, refusalOf, accept, access, step}
+use Rattle.model.specs.Model.{Model, Arrival, Call, Step, setUp, add, noWriters, choose, readOrTake, nextKey, Answer, fresh, listedIn, issueOf, keyIn, refusalOf, accept, access, step}
 use Rattle.keys.specs.Keys.{Later}
 use Rattle.model.specs.Story.{liveAt, Event, Entry, Story, run, trace, accepted, issuedTo, keysFrom, allKeys, entryKeys, lastKey, Rises, AtMost, Every, mapO, touchEntry, noted, bereft, keepAfter, tell, tellAll, entriesIn, entriesOf, orNew, lastBy}
 use Rattle.model.proofs.Laws.{every-imp, every-append, every-map, every-last, every-untaken, Done, turned, began, came, lost, looked, went, asked, done, map-append, map-map, map-ext}
@@ -69,10 +69,10 @@ module _ (p : ℕ → Bool) (ks : List ℕ) {m : Model} (h : Risen m ks) where
   unfolding accept access
   risen-done (turned (setUp u) q) = h
   risen-done (turned (add a) q) = h
-  risen-done (turned (dies k) q) = h
-  risen-done (turned (look w k room) q) = h
-  risen-done (turned (list t ps room) q) = h
-  risen-done (turned (after k) q) = h
+  risen-done (turned (noWriters k) q) = h
+  risen-done (turned (choose w k room) q) = h
+  risen-done (turned (readOrTake t ps room) q) = h
+  risen-done (turned (nextKey k) q) = h
   risen-done (began u e) = record { rises = tt; top = tt }
   risen-done (came a e) = risen-came a e
   risen-done (lost k i e) = record { rises = h .rises; top = h .top }
@@ -97,10 +97,10 @@ last-done : (ks : List ℕ) {m : Model} {c : Call} {x : Step} → m .last ≡ la
 unfolding accept access
 last-done ks h (turned (setUp u) q) = h
 last-done ks h (turned (add a) q) = h
-last-done ks h (turned (dies k) q) = h
-last-done ks h (turned (look w k room) q) = h
-last-done ks h (turned (list t ps room) q) = h
-last-done ks h (turned (after k) q) = h
+last-done ks h (turned (noWriters k) q) = h
+last-done ks h (turned (choose w k room) q) = h
+last-done ks h (turned (readOrTake t ps room) q) = h
+last-done ks h (turned (nextKey k) q) = h
 last-done ks h (began u e) = refl
 last-done ks {m} h (came a e) = rw (last-on last.Never ks (keyNow m a))
 last-done ks h (lost k i e) = h
@@ -142,14 +142,14 @@ tell-keys d n s (setUp u) r = split (accepted r) (λ e. rw e) (λ e. rw e)
 tell-keys d n s (add a) r = split (accepted r && eqb (a .name) n)
     (λ e. rw (e, new-same, map-append))
     (λ e. rw e)
-tell-keys d n s (dies k) r = split (accepted r && eqb k n)
+tell-keys d n s (noWriters k) r = split (accepted r && eqb k n)
     (λ e. rw (e, bereft-same))
     (λ e. rw e)
-tell-keys d n s (look w k room) r = refl
-tell-keys d n s (list t ps room) r = split (accepted r)
+tell-keys d n s (choose w k room) r = refl
+tell-keys d n s (readOrTake t ps room) r = split (accepted r)
     (λ e. rw e (noted-same d n t ps s))
     (λ e. rw e)
-tell-keys d n s (after k) r = refl
+tell-keys d n s (nextKey k) r = refl
 
 tell-all-keys : (d : Option ℕ) (n : ℕ) (s : Option Story) (es : List Event) (ks : List ℕ) → entryKeys (entriesIn s) ≡ ks → entryKeys (entriesIn (tellAll d n s es .story)) ≡ keysFrom (named n) ks es
 unfolding tellAll keysFrom

@@ -12,7 +12,7 @@ use lib.Dec.{eqb, leb}
 use borrow.Author.Tests.{eqb-true, eq-eqb}
 use Rattle.readcondition.specs.declared.ReadCondition.{ReadCondition}
 use Rattle.model.specs.Pairs.{Pair}
-use Rattle.model.specs.Model.{Model, SetUp, Arrival, Answer, Call, Step, setUp, add, dies, look, list, after, ok, within, keepOf, fresh, settingUp, refusalOf, accept, refuse, reply, dying, adding, access, accessing, fine, step, next, nextName, choosing, scope, Instance, Place, gone, held, Live, find, put, liveIn, push, window, listedIn, touch}
+use Rattle.model.specs.Model.{Model, SetUp, Arrival, Answer, Call, Step, setUp, add, noWriters, choose, readOrTake, nextKey, ok, within, keepOf, fresh, settingUp, refusalOf, accept, refuse, reply, dying, adding, access, accessing, fine, step, next, nextName, choosing, scope, Instance, Place, gone, held, Live, find, put, liveIn, push, window, listedIn, touch}
 use Rattle.model.specs.Story.{Every, Entry, untaken, holds, lastBy, touchEntry, mapO}
 use Rattle.model.specs.PairLaws.{split}
 
@@ -197,22 +197,22 @@ pub data Done (m : Model) : Call → Step → Type 0 where
   turned : (c : Call) (r : ℕ) → Done m c (refuse m r)
   began : (u : SetUp) → within u ≡ true → Done m (setUp u) (record { answer = ok; then = fresh (keepOf u) (u .instances) })
   came : (a : Arrival) → refusalOf m a ≡ 0 → Done m (add a) (accept m a)
-  lost : (n : ℕ) (i : Instance) → find n (m .instances) ≡ some i → Done m (dies n) (dying m (some i))
-  looked : (w : Option ℕ) (k : ReadCondition) (room : ℕ) (x : Answer) → Done m (look w k room) (reply m x)
-  went : (t : Bool) (ps : List Pair) (room : ℕ) → fine m ps ≡ true → Done m (list t ps room) (access t m ps)
-  asked : (n : ℕ) (x : Answer) → Done m (after n) (reply m x)
+  lost : (n : ℕ) (i : Instance) → find n (m .instances) ≡ some i → Done m (noWriters n) (dying m (some i))
+  looked : (w : Option ℕ) (k : ReadCondition) (room : ℕ) (x : Answer) → Done m (choose w k room) (reply m x)
+  went : (t : Bool) (ps : List Pair) (room : ℕ) → fine m ps ≡ true → Done m (readOrTake t ps room) (access t m ps)
+  asked : (n : ℕ) (x : Answer) → Done m (nextKey n) (reply m x)
 
 pub done : (m : Model) (c : Call) → Done m c (step m c)
 unfolding step settingUp adding accessing
 done m (setUp u) = split (within u) (λ e. rw e (began u e)) (λ e. rw e (turned (setUp u) 2))
 done m (add a) = split (eqb (refusalOf m a) 0) (λ e. rw e (came a (eqb-true (refusalOf m a) 0 e))) (λ e. rw e (turned (add a) (refusalOf m a)))
-done m (dies n) = go (find n (m .instances)) refl
+done m (noWriters n) = go (find n (m .instances)) refl
   where
-    go : (o : Option Instance) → find n (m .instances) ≡ o → Done m (dies n) (dying m o)
-    go none e = turned (dies n) 3
+    go : (o : Option Instance) → find n (m .instances) ≡ o → Done m (noWriters n) (dying m o)
+    go none e = turned (noWriters n) 3
     go (some i) e = lost n i e
-done m (look w k room) = looked w k room (choosing k room (scope w (m .instances)))
-done m (list t ps room) = split (fine m ps)
-    (λ e. split (leb (length ps) room) (λ l. rw (e, l) (went t ps room e)) (λ l. rw (e, l) (turned (list t ps room) _)))
-    (λ e. split (leb (length ps) room) (λ l. simp (e, l) (turned (list t ps room) _)) (λ l. simp (e, l) (turned (list t ps room) _)))
-done m (after n) = asked n (next (nextName n (m .instances)))
+done m (choose w k room) = looked w k room (choosing k room (scope w (m .instances)))
+done m (readOrTake t ps room) = split (fine m ps)
+    (λ e. split (leb (length ps) room) (λ l. rw (e, l) (went t ps room e)) (λ l. rw (e, l) (turned (readOrTake t ps room) _)))
+    (λ e. split (leb (length ps) room) (λ l. simp (e, l) (turned (readOrTake t ps room) _)) (λ l. simp (e, l) (turned (readOrTake t ps room) _)))
+done m (nextKey n) = asked n (next (nextName n (m .instances)))

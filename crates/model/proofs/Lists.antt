@@ -17,7 +17,7 @@ use Rattle.sampleinfo.specs.declared.Ranks.{Ranks}
 use Rattle.model.specs.Pairs.{Pair}
 use Rattle.model.specs.Views.{greater, viewed}
 use Rattle.model.specs.PairLaws.{among-in, repeats-distinct, split}
-use Rattle.model.specs.Model.{Model, Instance, Live, Place, gone, held, Step, refused, infos, list, refuse, find, liveIn, keyed, named, present, asRead, isLive, fine, infoAt, infosOf, infosFor, touch, listedIn, shown, accessed, listed, access, accessing, step, Edition, ranksAt}
+use Rattle.model.specs.Model.{Model, Instance, Live, Place, gone, held, Step, refused, infos, readOrTake, refuse, find, liveIn, keyed, named, present, asRead, isLive, fine, infoAt, infosOf, infosFor, touch, listedIn, shown, accessed, listed, access, accessing, step, Edition, ranksAt}
 use Rattle.model.specs.BadLaws.{allLive, fine-is-both, fine-live, fine-once}
 use Rattle.model.specs.Story.{Every, mapO, livesOf, liveAt}
 use Rattle.model.specs.Demand3.{In, LivePair, Sound, names, takes, remains, Greatest, Viewed, AtPlace, Lists, timesHeld}
@@ -264,7 +264,7 @@ module _ (m : Model) (once : (n : ℕ) → timesHeld n (m .instances) ≤ 1) (t 
     last-stays = refl;
   }
 
-  pub lists-step : Lists m t ps room (step m (list t ps room))
+  pub lists-step : Lists m t ps room (step m (readOrTake t ps room))
   unfolding step accessing
   lists-step = split (fine m ps)
       (λ e. split (leb (length ps) room) (λ l. rw (e, l) (went-through e l)) (λ l. rw (e, l) (turned-9 e l)))

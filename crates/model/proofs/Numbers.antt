@@ -9,7 +9,7 @@ use Rattle.sampleinfo.specs.States.{kindNumber}
 use Rattle.sampleinfo.specs.Lifecycle.{isLast, lifecycleNumber}
 use Rattle.readcondition.specs.Masks.{isValid, conditionNumber}
 use Rattle.readcondition.specs.declared.ReadCondition.{ReadCondition}
-use Rattle.model.specs.Model.{Model, Arrival, Answer, refused, look, wellFormed, noKey, issueOf, isNew, find, oldOf, stateIn, refusalOf, choosing, step}
+use Rattle.model.specs.Model.{Model, Arrival, Answer, refused, choose, wellFormed, noKey, issueOf, isNew, find, oldOf, stateIn, refusalOf, choosing, step}
 
 module _ (m : Model) where
   -- 1: "kind not 1 or 2"
@@ -32,7 +32,7 @@ module _ (m : Model) where
       go false rest n = absurd (n refl)
 
   -- 1: "mask beyond 3, 3, 7"
-  pub mask-number : (w : Option ℕ) (c : ReadCondition) (room : ℕ) → (conditionNumber c ≡ 0 → ⊥) → step m (look w c room) .answer ≡ refused (conditionNumber c)
+  pub mask-number : (w : Option ℕ) (c : ReadCondition) (room : ℕ) → (conditionNumber c ≡ 0 → ⊥) → step m (choose w c room) .answer ≡ refused (conditionNumber c)
   unfolding step choosing
   mask-number w c room n = go (isValid c) _ n
     where

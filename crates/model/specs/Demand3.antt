@@ -23,7 +23,7 @@ use Rattle.keys.specs.declared.Last.the-variants as last
 use Rattle.keys.specs.declared.Issued.the-variants as issued
 use Rattle.model.specs.Pairs.{Pair, among}
 use Rattle.model.specs.Views.{viewOf}
-use Rattle.model.specs.Model.{Live, Instance, Model, SetUp, Arrival, Call, setUp, add, dies, look, list, after, Answer, refused, ok, added, selected, infos, next}
+use Rattle.model.specs.Model.{Live, Instance, Model, SetUp, Arrival, Call, setUp, add, noWriters, choose, readOrTake, nextKey, Answer, refused, ok, added, selected, infos, next}
 use Rattle.model.specs.Model.{Step, step, fresh, find, liveIn, lives, count, inSlot, wellFormed, stateIn, liveOf, roomy, asRead}
 use Rattle.model.specs.Bounds.{Bounds}
 use Rattle.model.specs.Story.{Event, Entry, storyOf, entriesOf, untaken, lastOf, liveAt, allKeys, entryKeys, lastKey, Rises, AtMost, Every}
@@ -284,13 +284,13 @@ pub record Demand3 (d : Option ℕ) (now : Model) (seen : List Event) : Type 0 w
   pub at-most-256 : length (lives (now .instances)) ≤ 256
   pub adds : (a : Arrival) (key slot : ℕ) (out : Option ℕ) → (step now (add a)) .answer ≡ added key slot out → Adds now a key slot out ((step now (add a)) .then)
   -- the no-writers event
-  pub leaves : (n : ℕ) → Leaves now n (step now (dies n))
+  pub leaves : (n : ℕ) → Leaves now n (step now (noWriters n))
   -- (f) choosing, and next_key
-  pub looks : (w : Option ℕ) (c : ReadCondition) (room : ℕ) → Looks now w c room (step now (look w c room))
-  pub unknown-empty : (n : ℕ) (c : ReadCondition) (room : ℕ) → isValid c ≡ true → find n (now .instances) ≡ none → (step now (look (some n) c room)) .answer ≡ selected []
-  pub nexts : (n : ℕ) → Nexts now n (step now (after n))
+  pub looks : (w : Option ℕ) (c : ReadCondition) (room : ℕ) → Looks now w c room (step now (choose w c room))
+  pub unknown-empty : (n : ℕ) (c : ReadCondition) (room : ℕ) → isValid c ≡ true → find n (now .instances) ≡ none → (step now (choose (some n) c room)) .answer ≡ selected []
+  pub nexts : (n : ℕ) → Nexts now n (step now (nextKey n))
   -- (g) reading and taking
-  pub lists : (t : Bool) (ps : List Pair) (room : ℕ) → Lists now t ps room (step now (list t ps room))
+  pub lists : (t : Bool) (ps : List Pair) (room : ℕ) → Lists now t ps room (step now (readOrTake t ps room))
   -- a list names a sample where the pair of its key and its instance stands in it: by key alone is not enough
   pub names-is : (p : Pair) (ps : List Pair) → (among p ps ≡ true) ↔ In p ps
   -- (h) setting up

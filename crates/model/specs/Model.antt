@@ -69,15 +69,15 @@ pub record Arrival : Type 0 where
   pub kind : ℕ
   pub handle : ℕ
 
--- `look` chooses, over all instances or within one; `list` reads (false) or takes (true). Their last number is the room of the lent
--- result buffer, in pairs or in infos
+-- `choose` is over all instances or within one; `readOrTake` reads (false) or takes (true). Their last number is the room of the
+-- lent result buffer, in pairs or in infos
 pub data Call : Type 0 where
   setUp : SetUp → Call
   add : Arrival → Call
-  dies : ℕ → Call
-  look : Option ℕ → ReadCondition → ℕ → Call
-  list : Bool → List Pair → ℕ → Call
-  after : ℕ → Call
+  noWriters : ℕ → Call
+  choose : Option ℕ → ReadCondition → ℕ → Call
+  readOrTake : Bool → List Pair → ℕ → Call
+  nextKey : ℕ → Call
 
 pub data Answer : Type 0 where
   refused : ℕ → Answer
@@ -456,10 +456,10 @@ accessing t m ps room =
 unfoldable pub step : Model → Call → Step
 step m (setUp u) = settingUp m u
 step m (add a) = adding m a
-step m (dies n) = dying m (find n (m .instances))
-step m (look w c room) = reply m (choosing c room (scope w (m .instances)))
-step m (list t ps room) = accessing t m ps room
-step m (after n) = reply m (next (nextName n (m .instances)))
+step m (noWriters n) = dying m (find n (m .instances))
+step m (choose w c room) = reply m (choosing c room (scope w (m .instances)))
+step m (readOrTake t ps room) = accessing t m ps room
+step m (nextKey n) = reply m (next (nextName n (m .instances)))
 
 unfoldable pub answers : Model → List Call → List Answer
 answers m [] = []

@@ -18,7 +18,7 @@ use Rattle.readcondition.specs.Masks as Masks
 use Rattle.keys.specs.Keys as Keys
 use Rattle.model.specs.Pairs.{Pair}
 use Rattle.model.specs.Pairs as Pairs
-use Rattle.model.specs.Model.{Model, Call, add, dies, look, list, after, refused, added, selected, infos, next, fresh, answers}
+use Rattle.model.specs.Model.{Model, Call, add, noWriters, choose, readOrTake, nextKey, refused, added, selected, infos, next, fresh, answers}
 use Rattle.model.specs.Model
 
 -- every writer is 16 bytes of 0
@@ -28,14 +28,14 @@ writer = replicate 16 0
 abbrev arr : ℕ → ℕ → ℕ → ℕ → ℕ → Call
 arr n s t k h = add (record { name = n; writer = writer; seq = s; time = t; kind = k; handle = h })
 
-abbrev choose : ℕ → ℕ → ℕ → Call
-choose s v i = look none (condition s v i) 256
+abbrev masks : ℕ → ℕ → ℕ → Call
+masks s v i = choose none (condition s v i) 256
 
 abbrev read : List Pair → Call
-read ps = list false ps 256
+read ps = readOrTake false ps 256
 
 abbrev take′ : List Pair → Call
-take′ ps = list true ps 256
+take′ ps = readOrTake true ps 256
 
 abbrev at : ℕ → ℕ → Pair
 at k n = record { key = k; name = n }
@@ -56,8 +56,8 @@ line h k s v l a b r g x seq = record {
 }
 
 s1 : answers (fresh (some 2) 4) (arr 7 1 100 1 11 ∷ arr 9 1 100 1 12 ∷ arr 7 2 90 2 13 ∷ arr 7 3 200 1 14
-    ∷ choose 3 3 7 ∷ read (at 101 9 ∷ at 102 7 ∷ at 200 7 ∷ []) ∷ read (at 102 7 ∷ []) ∷ choose 3 1 7 ∷ take′ (at 200 7 ∷ [])
-    ∷ arr 7 4 150 1 15 ∷ after 7 ∷ after 9 ∷ dies 8 ∷ [])
+    ∷ masks 3 3 7 ∷ read (at 101 9 ∷ at 102 7 ∷ at 200 7 ∷ []) ∷ read (at 102 7 ∷ []) ∷ masks 3 1 7 ∷ take′ (at 200 7 ∷ [])
+    ∷ arr 7 4 150 1 15 ∷ nextKey 7 ∷ nextKey 9 ∷ noWriters 8 ∷ [])
     ≡ added 100 0 none ∷ added 101 1 none ∷ added 102 2 none ∷ added 200 0 (some 11)
     ∷ selected (at 101 9 ∷ at 102 7 ∷ at 200 7 ∷ [])
     ∷ infos (line 12 1 2 1 1 0 0 2 1 1 1 ∷ line 13 2 2 1 1 0 0 1 1 1 2 ∷ line 14 1 2 1 1 1 0 0 0 0 3 ∷ [])

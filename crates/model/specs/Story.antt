@@ -12,7 +12,7 @@ use Rattle.keys.specs.Keys.{Later}
 use Rattle.keys.specs.declared.Last.{Last}
 use Rattle.keys.specs.declared.Last.the-variants as last
 use Rattle.model.specs.Pairs.{Pair}
-use Rattle.model.specs.Model.{Live, Instance, Model, Arrival, Call, setUp, add, dies, look, list, after, Answer, refused, ok, added, selected, infos, next, keepOf, find, liveIn, stateIn, liveOf, asRead, listedIn, accessed, step}
+use Rattle.model.specs.Model.{Live, Instance, Model, Arrival, Call, setUp, add, noWriters, choose, readOrTake, nextKey, Answer, refused, ok, added, selected, infos, next, keepOf, find, liveIn, stateIn, liveOf, asRead, listedIn, accessed, step}
 
 -- ---- the calls and what was answered
 pub record Event : Type 0 where
@@ -109,20 +109,20 @@ noted d n t ps s = record { meta = accessed n ps (holds d (s .entries)) (s .meta
 abbrev pub keepAfter : Option ℕ → Call → Answer → Option ℕ
 keepAfter d (setUp u) r = cond (accepted r) (keepOf u) d
 keepAfter d (add a) r = d
-keepAfter d (dies k) r = d
-keepAfter d (look w k room) r = d
-keepAfter d (list t ps room) r = d
-keepAfter d (after k) r = d
+keepAfter d (noWriters k) r = d
+keepAfter d (choose w k room) r = d
+keepAfter d (readOrTake t ps room) r = d
+keepAfter d (nextKey k) r = d
 
 -- instance n's story under keep count d, one call further; none before its first accepted sample, nor after a set-up:
 -- "accepted samples, keys issued and instances held are counted from the last one"
 unfoldable pub tell : Option ℕ → ℕ → Option Story → Call → Answer → Option Story
 tell d n s (setUp u) r = cond (accepted r) none s
 tell d n s (add a) r = cond (accepted r && eqb (a .name) n) (some (came a (keyGiven r) (slotGiven r) (orNew (stateIn a) s))) s
-tell d n s (dies k) r = cond (accepted r && eqb k n) (mapO bereft s) s
-tell d n s (look w k room) r = s
-tell d n s (list t ps room) r = cond (accepted r) (mapO (noted d n t ps) s) s
-tell d n s (after k) r = s
+tell d n s (noWriters k) r = cond (accepted r && eqb k n) (mapO bereft s) s
+tell d n s (choose w k room) r = s
+tell d n s (readOrTake t ps room) r = cond (accepted r) (mapO (noted d n t ps) s) s
+tell d n s (nextKey k) r = s
 
 -- the present keep count, and the story
 pub record Told : Type 0 where
@@ -157,10 +157,10 @@ liveAt n m = livesOf (find n (m .instances))
 abbrev pub issuedTo : (ℕ → Bool) → List ℕ → Call → Answer → List ℕ
 issuedTo p ks (setUp u) r = cond (accepted r) [] ks
 issuedTo p ks (add a) r = cond (accepted r && p (a .name)) (ks ++ keyGiven r ∷ []) ks
-issuedTo p ks (dies k) r = ks
-issuedTo p ks (look w k room) r = ks
-issuedTo p ks (list t ps room) r = ks
-issuedTo p ks (after k) r = ks
+issuedTo p ks (noWriters k) r = ks
+issuedTo p ks (choose w k room) r = ks
+issuedTo p ks (readOrTake t ps room) r = ks
+issuedTo p ks (nextKey k) r = ks
 
 unfoldable pub keysFrom : (ℕ → Bool) → List ℕ → List Event → List ℕ
 keysFrom p ks [] = ks

@@ -167,12 +167,12 @@ arrivalMeant a w = record { name = a .instance; writer = w; seq = a .«sequence_
 abbrev pub opMeant : Op → List ℕ → List Pair → Option model.Call
 opMeant (op.SetUp u) w ps = some (model.setUp (setUpMeant u))
 opMeant (op.Add a) w ps = some (model.add (arrivalMeant a w))
-opMeant (op.NoWriters n) w ps = some (model.dies n)
-opMeant (op.Choose c) w ps = some (model.look none c buffer)
-opMeant (op.ChooseWithin n c) w ps = some (model.look (some n) c buffer)
-opMeant (op.Read n) w ps = some (model.list false ps buffer)
-opMeant (op.Take n) w ps = some (model.list true ps buffer)
-opMeant (op.NextKey n) w ps = some (model.after n)
+opMeant (op.NoWriters n) w ps = some (model.noWriters n)
+opMeant (op.Choose c) w ps = some (model.choose none c buffer)
+opMeant (op.ChooseWithin n c) w ps = some (model.choose (some n) c buffer)
+opMeant (op.Read n) w ps = some (model.readOrTake false ps buffer)
+opMeant (op.Take n) w ps = some (model.readOrTake true ps buffer)
+opMeant (op.NextKey n) w ps = some (model.nextKey n)
 opMeant op.Malformed w ps = none
 
 abbrev pub callMeant : Request → List Pair → Option model.Call
@@ -188,10 +188,10 @@ callOf rec = callMeant (requestOf rec) (listPairs rec)
 abbrev pub faulty : model.Call → Bool
 faulty (model.setUp u) = false
 faulty (model.add a) = not (model.wellFormed a)
-faulty (model.dies n) = false
-faulty (model.look w c room) = not (isValid c)
-faulty (model.list t ps room) = false
-faulty (model.after n) = false
+faulty (model.noWriters n) = false
+faulty (model.choose w c room) = not (isValid c)
+faulty (model.readOrTake t ps room) = false
+faulty (model.nextKey n) = false
 
 -- or "bad session record"
 abbrev pub bad : Option model.Call → Bool

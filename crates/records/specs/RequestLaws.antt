@@ -14,7 +14,7 @@ use Rattle.sampleinfo.specs.declared.Body.{Body}
 use Rattle.sampleinfo.specs.declared.BodyMade.{BodyMade}
 use Rattle.sampleinfo.specs.declared.BodyMade.the-variants as made
 use Rattle.model.specs.Pairs.{Pair}
-use Rattle.model.specs.Model.{Model, Call, setUp, add, dies, look, list, after, wellFormed, step, refuse, adding, refusalOf, choosing}
+use Rattle.model.specs.Model.{Model, Call, setUp, add, noWriters, choose, readOrTake, nextKey, wellFormed, step, refuse, adding, refusalOf, choosing}
 use Rattle.readcondition.specs.Masks.{condition, isValid}
 use Rattle.readcondition.specs.declared.ReadCondition.{ReadCondition}
 use Rattle.records.specs.Format.{byteAt, numberAt, twos, masksAt, instanceIn, setUpSize, setUpIn, addSize, arrivalIn, writerIn, noWritersSize, chooseSize, chooseWithinSize, countIn, listSize, nextKeySize, sizedOp, opAt, opIn, requestOf, countOf, listCount, listPairs, arrivalMeant, opMeant, callMeant, callOf, faulty, bad}
@@ -148,8 +148,8 @@ request-bad rec = bad-means (opIn rec) (writerIn rec) (listPairs rec)
 pub faulty-refused : (m : Model) (c : Call) → faulty c ≡ true → step m c ≡ refuse m 1
 unfolding step adding refusalOf choosing
 faulty-refused m (add a) e = rw (e)
-faulty-refused m (look w c room) e = rw (not-true (isValid c) e)
+faulty-refused m (choose w c room) e = rw (not-true (isValid c) e)
 faulty-refused m (setUp u) e = let z : _≡_ {A = ℕ} 0 1 = cc in absurd (omega arith)
-faulty-refused m (dies n) e = let z : _≡_ {A = ℕ} 0 1 = cc in absurd (omega arith)
-faulty-refused m (list t ps room) e = let z : _≡_ {A = ℕ} 0 1 = cc in absurd (omega arith)
-faulty-refused m (after n) e = let z : _≡_ {A = ℕ} 0 1 = cc in absurd (omega arith)
+faulty-refused m (noWriters n) e = let z : _≡_ {A = ℕ} 0 1 = cc in absurd (omega arith)
+faulty-refused m (readOrTake t ps room) e = let z : _≡_ {A = ℕ} 0 1 = cc in absurd (omega arith)
+faulty-refused m (nextKey n) e = let z : _≡_ {A = ℕ} 0 1 = cc in absurd (omega arith)

@@ -23,7 +23,7 @@ use Rattle.keys.specs.declared.Last.the-variants as last
 use Rattle.store.specs.Fit.{Deep, depthOf}
 use Rattle.model.specs.Pairs.{Pair}
 use Rattle.model.specs.Model as M
-use Rattle.model.specs.Model.{Model, Instance, Live, Arrival, SetUp, Call, setUp, add, dies, look, list, after, Place, gone, held, find, put, liveIn, lives, count, inSlot, push, asRead, listedIn, touch, listed, left, keyIn, issueOf, stateIn, oldOf, refusalOf, arrived, slotOf, accept, adding, dying, access, accessing, fine, within, keepOf, keepFits, isZero, countsKept, countsNone, fresh, settingUp, step}
+use Rattle.model.specs.Model.{Model, Instance, Live, Arrival, SetUp, Call, setUp, add, noWriters, choose, readOrTake, nextKey, Place, gone, held, find, put, liveIn, lives, count, inSlot, push, asRead, listedIn, touch, listed, left, keyIn, issueOf, stateIn, oldOf, refusalOf, arrived, slotOf, accept, adding, dying, access, accessing, fine, within, keepOf, keepFits, isZero, countsKept, countsNone, fresh, settingUp, step}
 use Rattle.model.specs.Story.{run, livesOf}
 use Rattle.model.proofs.Slots.{reached-on, not-reached, length-put, reached}
 use Rattle.model.proofs.Names.{times-listed, times-put-once}
@@ -287,10 +287,10 @@ pub good-step : (m : Model) → Good m → (c : Call) → Good (step m c .then)
 unfolding step
 good-step m g (setUp u) = good-settingUp m g u
 good-step m g (add a) = good-adding m g a
-good-step m g (dies n) = good-dying m g n
-good-step m g (look w c room) = g
-good-step m g (list t ps room) = good-accessing t m g ps room
-good-step m g (after n) = g
+good-step m g (noWriters n) = good-dying m g n
+good-step m g (choose w c room) = g
+good-step m g (readOrTake t ps room) = good-accessing t m g ps room
+good-step m g (nextKey n) = g
 
 pub good-from : (m : Model) → Good m → (cs : List Call) → Good (run m cs)
 unfolding run

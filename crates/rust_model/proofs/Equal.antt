@@ -13,7 +13,7 @@ use Rattle.readcondition.specs.Masks.{isValid}
 use Rattle.readcondition.specs.declared.ReadCondition.{ReadCondition}
 use Rattle.keys.specs.declared.Last.the-variants as last
 use Rattle.model.specs.Pairs.{Pair}
-use Rattle.model.specs.Model.{Model, Instance, Arrival, Call, setUp, add, dies, look, list, after, selected, countsKept, countsNone, keepFits, isZero, depthOf, within, keepOf, fresh, find, nextName, refusalOf, accept, adding, scope, choices, choosing, fine, infosFor, access, accessing, step, answers}
+use Rattle.model.specs.Model.{Model, Instance, Arrival, Call, setUp, add, noWriters, choose, readOrTake, nextKey, selected, countsKept, countsNone, keepFits, isZero, depthOf, within, keepOf, fresh, find, nextName, refusalOf, accept, adding, scope, choices, choosing, fine, infosFor, access, accessing, step, answers}
 use Rattle.model.specs.Story.{untaken, livesOf, liveAt, run, trace, accepted, allKeys, lastKey}
 use Rattle.model.specs.Demand3.{timesHeld}
 use Rattle.model.proofs.Refusals.{both, passed}
@@ -84,7 +84,7 @@ module _ (m : Model) (c : DataSampleCache) (log : List Kept) (h : Alike m c log)
       (λ a. not-so (accepted (choosing rc room is)) (rw a) e)
 
   module _ (once : (n : ℕ) → timesHeld n (m .instances) ≤ 1) where
-    turns-look : (w : Option ℕ) (rc : ReadCondition) (room : ℕ) → accepted ((step m (look w rc room)) .answer) ≡ true → Turns m c (look w rc room)
+    turns-look : (w : Option ℕ) (rc : ReadCondition) (room : ℕ) → accepted ((step m (choose w rc room)) .answer) ≡ true → Turns m c (choose w rc room)
     unfolding step
     turns-look none rc room e = record {
       done = turn (chose (choices rc (m .instances))) c;
@@ -101,13 +101,13 @@ module _ (m : Model) (c : DataSampleCache) (log : List Kept) (h : Alike m c log)
       alike = h;
     }
 
-    turns-list : (t : Bool) (ps : List Pair) (room : ℕ) → accepted ((step m (list t ps room)) .answer) ≡ true → Turns m c (list t ps room)
+    turns-list : (t : Bool) (ps : List Pair) (room : ℕ) → accepted ((step m (readOrTake t ps room)) .answer) ≡ true → Turns m c (readOrTake t ps room)
     unfolding step accessing
     turns-list t ps room e = split (fine m ps)
-        (λ a. split (leb (length ps) room) (λ b. on a b) (λ b. not-so (accepted ((step m (list t ps room)) .answer)) (rw (a, b)) e))
-        (λ a. not-so (accepted ((step m (list t ps room)) .answer)) (rw a) e)
+        (λ a. split (leb (length ps) room) (λ b. on a b) (λ b. not-so (accepted ((step m (readOrTake t ps room)) .answer)) (rw (a, b)) e))
+        (λ a. not-so (accepted ((step m (readOrTake t ps room)) .answer)) (rw a) e)
       where
-        on : fine m ps ≡ true → leb (length ps) room ≡ true → Turns m c (list t ps room)
+        on : fine m ps ≡ true → leb (length ps) room ≡ true → Turns m c (readOrTake t ps room)
         on a b = record {
           done = turn (gave (infosFor m ps)) (by-keys m c log h once t ps a .cache);
           log = touched t ps log;
@@ -120,10 +120,10 @@ module _ (m : Model) (c : DataSampleCache) (log : List Kept) (h : Alike m c log)
     unfolding step
     turns ks l (setUp u) s e = absurd s
     turns ks l (add a) s e = turns-add ks l a s e
-    turns ks l (dies n) s e = absurd s
-    turns ks l (look w rc room) s e = turns-look w rc room e
-    turns ks l (list t ps room) s e = turns-list t ps room e
-    turns ks l (after n) s e = record { done = turn (follows (firstAbove n (c .«instance_map»))) c; log = log; called = refl; told = ap follows (h .nexts n); alike = h }
+    turns ks l (noWriters n) s e = absurd s
+    turns ks l (choose w rc room) s e = turns-look w rc room e
+    turns ks l (readOrTake t ps room) s e = turns-list t ps room e
+    turns ks l (nextKey n) s e = record { done = turn (follows (firstAbove n (c .«instance_map»))) c; log = log; called = refl; told = ap follows (h .nexts n); alike = h }
 
 -- ---- calls in a row
 run-on : (m : Model) (past : List Call) (x : Call) → run m (past ++ x ∷ []) ≡ (step (run m past) x) .then

@@ -8,7 +8,7 @@ use lib.Dec.{eqb}
 use Rattle.sampleinfo.specs.declared.Sample.{Sample}
 use Rattle.sampleinfo.specs.declared.Info.{Info}
 use Rattle.model.specs.Pairs.{Pair}
-use Rattle.model.specs.Model.{Model, Live, SetUp, Arrival, Call, setUp, add, dies, look, list, after, Answer, refused, ok, added, selected, infos, next, bodyIn, depthOf, within, keepOf, fresh, answers}
+use Rattle.model.specs.Model.{Model, Live, SetUp, Arrival, Call, setUp, add, noWriters, choose, readOrTake, nextKey, Answer, refused, ok, added, selected, infos, next, bodyIn, depthOf, within, keepOf, fresh, answers}
 use Rattle.model.specs.Story.{run, liveAt}
 use Rattle.rust_model.specs.Maps.{Outcome, panics, gives, try, Entry, entry}
 use Rattle.rust_model.specs.DataSampleCache.{KeepAll, KeepLast, QosPolicies, DataSampleCache, DataSamples, CacheChange, Added, new, «add_sample», «select_keys_for_access», «select_instance_keys_for_access», byKeys, «next_key»}
@@ -52,11 +52,11 @@ choosing c x = try x (λ ps. gives (turn (chose ps) c))
 abbrev pub call : DataSampleCache → Call → Outcome Turn
 call c (setUp u) = gives (turn unknown c)
 call c (add a) = gives (addedTo («add_sample» c (changeOf a)))
-call c (dies n) = gives (turn unknown c)
-call c (look none rc room) = choosing c («select_keys_for_access» c rc)
-call c (look (some n) rc room) = choosing c («select_instance_keys_for_access» c n rc)
-call c (list t ps room) = try (byKeys t c ps) (λ x. gives (turn (gave (x .infos)) (x .cache)))
-call c (after n) = gives (turn (follows («next_key» c n)) c)
+call c (noWriters n) = gives (turn unknown c)
+call c (choose none rc room) = choosing c («select_keys_for_access» c rc)
+call c (choose (some n) rc room) = choosing c («select_instance_keys_for_access» c n rc)
+call c (readOrTake t ps room) = try (byKeys t c ps) (λ x. gives (turn (gave (x .infos)) (x .cache)))
+call c (nextKey n) = gives (turn (follows («next_key» c n)) c)
 
 -- ---- calls in a row
 

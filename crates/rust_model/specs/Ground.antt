@@ -5,7 +5,7 @@ use mathlib.Core.Bool.{true}
 use mathlib.Core.List.{List, [], _∷_, _++_}
 use Prim.Native.Nat.{ℕ, _<_}
 use Rattle.keys.specs.declared.Last.the-variants as last
-use Rattle.model.specs.Model.{Model, Call, setUp, add, dies, look, list, after, step}
+use Rattle.model.specs.Model.{Model, Call, setUp, add, noWriters, choose, readOrTake, nextKey, step}
 use Rattle.model.specs.Story.{Every, run, trace, accepted, allKeys, lastKey}
 use Rattle.model.specs.Demand3.{LivePair}
 
@@ -18,10 +18,10 @@ LastLives m ks = (k : ℕ) × (n : ℕ) × (lastKey last.Never ks ≡ last.Key k
 abbrev pub Stands : Model → List ℕ → Call → Type 0
 Stands m ks (setUp u) = ⊥
 Stands m ks (add a) = Every (λ k. k < a .time) ks ⊎ LastLives m ks
-Stands m ks (dies n) = ⊥
-Stands m ks (look w c room) = Unit {0}
-Stands m ks (list t ps room) = Unit {0}
-Stands m ks (after n) = Unit {0}
+Stands m ks (noWriters n) = ⊥
+Stands m ks (choose w c room) = Unit {0}
+Stands m ks (readOrTake t ps room) = Unit {0}
+Stands m ks (nextKey n) = Unit {0}
 
 -- "Any sequence without refusals": of a cache that is fresh from its set-up, the calls so far, and those to come
 abbrev pub Ground : Model → List Call → List Call → Type 0

@@ -11,7 +11,7 @@ use Rattle.keys.specs.Keys as K
 use Rattle.readcondition.specs.Masks as Mk
 use Rattle.model.specs.Pairs as P
 use Rattle.model.specs.Model as M
-use Rattle.model.specs.Model.{Call, add, list, fresh}
+use Rattle.model.specs.Model.{Call, add, readOrTake, fresh}
 use Rattle.model.specs.Story.{run, trace, keysFrom}
 use Rattle.model.specs.Topic as T
 use Rattle.rust_model.specs.Ground.{Ground}
@@ -21,7 +21,7 @@ abbrev arrives : ℕ → ℕ → Call
 arrives n t = add (record { name = n; writer = replicate 16 0; seq = 1; time = t; kind = 1; handle = 1 })
 
 -- two adds, a take of the first, an add later than every key, and one at an earlier time while the last key, 300, is live
-pub ground-has-members : Ground (fresh (some 2) 4) [] (arrives 7 100 ∷ arrives 7 200 ∷ list true (record { key = 100; name = 7 } ∷ []) 256 ∷ arrives 9 300 ∷ arrives 7 50 ∷ [])
+pub ground-has-members : Ground (fresh (some 2) 4) [] (arrives 7 100 ∷ arrives 7 200 ∷ readOrTake true (record { key = 100; name = 7 } ∷ []) 256 ∷ arrives 9 300 ∷ arrives 7 50 ∷ [])
 unfolding M.answers M.step M.adding M.accept M.oldOf M.wellFormed M.arrived M.roomy M.slotOf M.refusalOf M.find M.put M.nextName M.liveIn M.lives M.count M.lowestFrom M.push M.pushedOut M.window M.hitsIn M.hits M.choosing M.keyed M.latest M.lastTotal M.ranksAt M.infosOf M.shown M.access M.accessing P.among P.badFrom P.insert P.sorted Mk.chosenBy Mk.isValid K.keyOf run trace keysFrom
 ground-has-members = (
   inl tt,

@@ -168,7 +168,7 @@ unfolding wordsOf pairsOf
 pairs-back [] = refl
 pairs-back (p ∷ ps) = ap (λ (qs : List Pair). p ∷ qs) (pairs-back ps)
 
-listing-is : (m : Model) (take : Bool) (ps : List Pair) (keys : List ℕ) (room : ℕ) (P : Step → Type 0) → keys ≡ wordsOf ps → room ≡ buffer → P (listing m take keys room) → P (step m (Call.list take ps buffer))
+listing-is : (m : Model) (take : Bool) (ps : List Pair) (keys : List ℕ) (room : ℕ) (P : Step → Type 0) → keys ≡ wordsOf ps → room ≡ buffer → P (listing m take keys room) → P (step m (Call.readOrTake take ps buffer))
 unfolding listing wholePairs
 listing-is m take ps keys room P k n h = rw (k, n, words-even ps, pairs-back ps) at h
 
@@ -222,10 +222,10 @@ module _ (s : Session) (ws after : List ℕ) (t then : List Sample) (q : Replied
   pub list-answers : (taken b : Bool) (rec buf now′ was out : List ℕ) (n k : ℕ) (r : ListOutcome) → q ≡ listDone r
       → ((m : Model) → Good m → Lies m (s .head) ws t → list.Came (listing m b (take k now′) (placesIn was)) r after then was out) → taken ≡ b
       → now′ ≡ laidIn buf (wordsIn rec) → n ≡ length (wordsIn rec) → k ≡ atMost n listWords → length was ≡ infosSize
-      → length buf ≡ listWords → (m : Model) (ps : List ℕ) → length rec < tooLong → Ready m s ws t → Answers (answering (some m) (Call.list taken (listPairs rec) buffer)) s ws t ps was q after then ps out
+      → length buf ≡ listWords → (m : Model) (ps : List ℕ) → length rec < tooLong → Ready m s ws t → Answers (answering (some m) (Call.readOrTake taken (listPairs rec) buffer)) s ws t ps was q after then ps out
   unfolding answering
   list-answers taken b rec buf now′ was out n k r e f eb el en ek room big m ps h l =
-      let c : Call = Call.list b (listPairs rec) buffer in
+      let c : Call = Call.readOrTake b (listPairs rec) buffer in
       let x : list.Came (step m c) r after then was out = listing-is m b (listPairs rec) (take k now′) (placesIn was) (λ st. list.Came st r after then was out)
       (front-words rec buf now′ n k en el ek (words-fit rec h) big) (ap (λ i. i / infoSize) room) (f m (l .good) (l .lies)) in
       rw (e, eb)
@@ -238,28 +238,28 @@ module _ (s : Session) (ws after : List ℕ) (t then : List Sample) (q : Replied
       })
 
   pub choose-answers : (w : Option ℕ) (c : ReadCondition) (was out : List ℕ) (r : Chosen) → q ≡ said s (chooseSaid r) → length was ≡ pairsSize
-      → ((m : Model) → Good m → Lies m (s .head) ws t → select.Told (step m (Call.look w c (length was / 2)) .answer) r was out)
-      → (m : Model) (is : List ℕ) → Ready m s ws t → Answers (answering (some m) (Call.look w c buffer)) s ws t was is q ws t out is
+      → ((m : Model) → Good m → Lies m (s .head) ws t → select.Told (step m (Call.choose w c (length was / 2)) .answer) r was out)
+      → (m : Model) (is : List ℕ) → Ready m s ws t → Answers (answering (some m) (Call.choose w c buffer)) s ws t was is q ws t out is
   unfolding answering step
   choose-answers w c was out r e n f m is l =
-      let y : select.Told (step m (Call.look w c buffer) .answer) r was out = rw n at f m (l .good) (l .lies) in
-      let left : out ≡ pairsLeft (step m (Call.look w c buffer) .answer) was = y .buffer ∙ written-left (step m (Call.look w c buffer) .answer) was in
+      let y : select.Told (step m (Call.choose w c buffer) .answer) r was out = rw n at f m (l .good) (l .lies) in
+      let left : out ≡ pairsLeft (step m (Call.choose w c buffer) .answer) was = y .buffer ∙ written-left (step m (Call.choose w c buffer) .answer) was in
       rw e (record { says = choose-says is was out _ r y; stands = l; kept = tt; pairs = left; infos = chosen-left is r out _ (y .answer) })
 
   pub no-writers-answers : (i : ℕ) (r : cache-reply.Reply) (x : Reply) → x ≡ replySaid r → q ≡ said s x
-      → ((m : Model) (t : List Sample) → Good m → Lies m (s .head) ws t → Dies (step m (Call.dies i)) r (s .head) after t)
-      → (m : Model) (t : List Sample) (ps is : List ℕ) → Ready m s ws t → Answers (answering (some m) (Call.dies i)) s ws t ps is q after t ps is
+      → ((m : Model) (t : List Sample) → Good m → Lies m (s .head) ws t → Dies (step m (Call.noWriters i)) r (s .head) after t)
+      → (m : Model) (t : List Sample) (ps is : List ℕ) → Ready m s ws t → Answers (answering (some m) (Call.noWriters i)) s ws t ps is q after t ps is
   unfolding answering
   no-writers-answers i r x k e f m t ps is l =
-      let y : Dies (step m (Call.dies i)) r (s .head) after t = f m t (l .good) (l .lies) in
-      let left : Silent (step m (Call.dies i) .answer) = subst Silent (y .answer) (reply-silent r) in
+      let y : Dies (step m (Call.noWriters i)) r (s .head) after t = f m t (l .good) (l .lies) in
+      let left : Silent (step m (Call.noWriters i) .answer) = subst Silent (y .answer) (reply-silent r) in
       rw (e, k)
-      (record { says = reply-says ps is _ r (y .answer); stands = ready-made m s s ws after t t (Call.dies i) l tt (l .ready) (y .lies); kept = tt; pairs = left ps .0; infos = left is .1 })
+      (record { says = reply-says ps is _ r (y .answer); stands = ready-made m s s ws after t t (Call.noWriters i) l tt (l .ready) (y .lies); kept = tt; pairs = left ps .0; infos = left is .1 })
 
   pub next-answers : (i : ℕ) (r : Next) (x : Reply) → x ≡ nextSaid r → q ≡ said s x
-      → ((m : Model) (t : List Sample) → Good m → Lies m (s .head) ws t → step m (Call.after i) ≡ record { answer = nextAs r; then = m })
-      → (m : Model) (t : List Sample) (ps is : List ℕ) → Ready m s ws t → Answers (answering (some m) (Call.after i)) s ws t ps is q ws t ps is
+      → ((m : Model) (t : List Sample) → Good m → Lies m (s .head) ws t → step m (Call.nextKey i) ≡ record { answer = nextAs r; then = m })
+      → (m : Model) (t : List Sample) (ps is : List ℕ) → Ready m s ws t → Answers (answering (some m) (Call.nextKey i)) s ws t ps is q ws t ps is
   unfolding answering
   next-answers i r x k e f m t ps is l =
-      let y : step m (Call.after i) ≡ record { answer = nextAs r; then = m } = f m t (l .good) (l .lies) in
+      let y : step m (Call.nextKey i) ≡ record { answer = nextAs r; then = m } = f m t (l .good) (l .lies) in
       rw (e, k, y) (record { says = next-says ps is r; stands = l; kept = tt; pairs = next-silent r ps .0; infos = next-silent r is .1 })

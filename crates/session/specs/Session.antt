@@ -3,7 +3,7 @@ use mathlib.Core.Bool.{cond}
 use mathlib.Core.List.{List, [], _∷_, _++_}
 use mathlib.Core.Option.{Option, some, none}
 use Prim.Native.Nat.{ℕ}
-use Rattle.model.specs.Model.{Model, Call, setUp, add, dies, look, list, after, Answer, refused, ok, Step, step, within, fresh, keepOf}
+use Rattle.model.specs.Model.{Model, Call, setUp, add, noWriters, choose, readOrTake, nextKey, Answer, refused, ok, Step, step, within, fresh, keepOf}
 use Rattle.records.specs.Format.{callOf, faulty}
 use Rattle.printing.specs.Printout.{printed}
 
@@ -22,16 +22,16 @@ made s = record { answer = s .answer; then = some (s .then) }
 unfoldable pub answering : Option Model → Call → Turn
 answering none (setUp u) = cond (within u) (record { answer = ok; then = some (fresh (keepOf u) (u .instances)) }) (refuse none 2)
 answering none (add a) = refuse none 10
-answering none (dies n) = refuse none 10
-answering none (look w c room) = refuse none 10
-answering none (list t ps room) = refuse none 10
-answering none (after n) = refuse none 10
+answering none (noWriters n) = refuse none 10
+answering none (choose w c room) = refuse none 10
+answering none (readOrTake t ps room) = refuse none 10
+answering none (nextKey n) = refuse none 10
 answering (some m) (setUp u) = refuse (some m) 10
 answering (some m) (add a) = made (step m (add a))
-answering (some m) (dies n) = made (step m (dies n))
-answering (some m) (look w c room) = made (step m (look w c room))
-answering (some m) (list t ps room) = made (step m (list t ps room))
-answering (some m) (after n) = made (step m (after n))
+answering (some m) (noWriters n) = made (step m (noWriters n))
+answering (some m) (choose w c room) = made (step m (choose w c room))
+answering (some m) (readOrTake t ps room) = made (step m (readOrTake t ps room))
+answering (some m) (nextKey n) = made (step m (nextKey n))
 
 -- "1 comes first everywhere." "Program: 10, then the rest."
 unfoldable pub turnOf : Option Model → Option Call → Turn

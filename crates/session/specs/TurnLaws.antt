@@ -148,29 +148,29 @@ module _ (s : Session) (ws : List ℕ) (t : List Sample) (rec : List ℕ) (q : R
         → Turns rec s ws t ps is r after then ps is
     turn-add a o g = turn-call z r after then ps is ps is (M.add (arrivalMeant a (q .writer))) (means (op.Add a) o) (ap isSetUp o) (λ m h. g m ps is)
 
-    pub turn-no-writers : (i : ℕ) → q .op ≡ op.NoWriters i → then ≡ t → ((m : Model) (t : List Sample) (ps is : List ℕ) → Stands (some m) s ws t → Answers (answering (some m) (M.dies i)) s ws t ps is r after t ps is)
+    pub turn-no-writers : (i : ℕ) → q .op ≡ op.NoWriters i → then ≡ t → ((m : Model) (t : List Sample) (ps is : List ℕ) → Stands (some m) s ws t → Answers (answering (some m) (M.noWriters i)) s ws t ps is r after t ps is)
         → Turns rec s ws t ps is r after then ps is
-    turn-no-writers i o same-table g = turn-call z r after then ps is ps is (M.dies i) (means (op.NoWriters i) o) (ap isSetUp o) (λ m h k. rw same-table (g m t ps is k))
+    turn-no-writers i o same-table g = turn-call z r after then ps is ps is (M.noWriters i) (means (op.NoWriters i) o) (ap isSetUp o) (λ m h k. rw same-table (g m t ps is k))
 
-    pub turn-next-key : (i : ℕ) → q .op ≡ op.NextKey i → after ≡ ws → then ≡ t → ((m : Model) (t : List Sample) (ps is : List ℕ) → Stands (some m) s ws t → Answers (answering (some m) (M.after i)) s ws t ps is r ws t ps is)
+    pub turn-next-key : (i : ℕ) → q .op ≡ op.NextKey i → after ≡ ws → then ≡ t → ((m : Model) (t : List Sample) (ps is : List ℕ) → Stands (some m) s ws t → Answers (answering (some m) (M.nextKey i)) s ws t ps is r ws t ps is)
         → Turns rec s ws t ps is r after then ps is
-    turn-next-key i o same-words same-table g = turn-call z r after then ps is ps is (M.after i) (means (op.NextKey i) o) (ap isSetUp o) (λ m h k. rw (same-words, same-table) (g m t ps is k))
+    turn-next-key i o same-words same-table g = turn-call z r after then ps is ps is (M.nextKey i) (means (op.NextKey i) o) (ap isSetUp o) (λ m h k. rw (same-words, same-table) (g m t ps is k))
 
-    pub turn-choose : (c : ReadCondition) (qs : List ℕ) → q .op ≡ op.Choose c → after ≡ ws → then ≡ t → ((m : Model) (is : List ℕ) → Stands (some m) s ws t → Answers (answering (some m) (M.look none c buffer)) s ws t ps is r ws t qs is)
+    pub turn-choose : (c : ReadCondition) (qs : List ℕ) → q .op ≡ op.Choose c → after ≡ ws → then ≡ t → ((m : Model) (is : List ℕ) → Stands (some m) s ws t → Answers (answering (some m) (M.choose none c buffer)) s ws t ps is r ws t qs is)
         → Turns rec s ws t ps is r after then qs is
-    turn-choose c qs o same-words same-table g = turn-call z r after then ps is qs is (M.look none c buffer) (means (op.Choose c) o) (ap isSetUp o) (λ m h k. rw (same-words, same-table) (g m is k))
+    turn-choose c qs o same-words same-table g = turn-call z r after then ps is qs is (M.choose none c buffer) (means (op.Choose c) o) (ap isSetUp o) (λ m h k. rw (same-words, same-table) (g m is k))
 
     pub turn-choose-within : (i : ℕ) (c : ReadCondition) (qs : List ℕ) → q .op ≡ op.ChooseWithin i c → after ≡ ws → then ≡ t
-        → ((m : Model) (is : List ℕ) → Stands (some m) s ws t → Answers (answering (some m) (M.look (some i) c buffer)) s ws t ps is r ws t qs is) → Turns rec s ws t ps is r after then qs is
-    turn-choose-within i c qs o same-words same-table g = turn-call z r after then ps is qs is (M.look (some i) c buffer) (means (op.ChooseWithin i c) o) (ap isSetUp o) (λ m h k. rw (same-words, same-table) (g m is k))
+        → ((m : Model) (is : List ℕ) → Stands (some m) s ws t → Answers (answering (some m) (M.choose (some i) c buffer)) s ws t ps is r ws t qs is) → Turns rec s ws t ps is r after then qs is
+    turn-choose-within i c qs o same-words same-table g = turn-call z r after then ps is qs is (M.choose (some i) c buffer) (means (op.ChooseWithin i c) o) (ap isSetUp o) (λ m h k. rw (same-words, same-table) (g m is k))
 
-    pub turn-read : (i : ℕ) (js : List ℕ) → q .op ≡ op.Read i → ((m : Model) (ps : List ℕ) → length rec < tooLong → Stands (some m) s ws t → Answers (answering (some m) (M.list false (listPairs rec) buffer)) s ws t ps is r after then ps js)
+    pub turn-read : (i : ℕ) (js : List ℕ) → q .op ≡ op.Read i → ((m : Model) (ps : List ℕ) → length rec < tooLong → Stands (some m) s ws t → Answers (answering (some m) (M.readOrTake false (listPairs rec) buffer)) s ws t ps is r after then ps js)
         → Turns rec s ws t ps is r after then ps js
-    turn-read i js o g = turn-call z r after then ps is ps js (M.list false (listPairs rec) buffer) (means (op.Read i) o) (ap isSetUp o) (λ m. g m ps)
+    turn-read i js o g = turn-call z r after then ps is ps js (M.readOrTake false (listPairs rec) buffer) (means (op.Read i) o) (ap isSetUp o) (λ m. g m ps)
 
-    pub turn-take : (i : ℕ) (js : List ℕ) → q .op ≡ op.Take i → ((m : Model) (ps : List ℕ) → length rec < tooLong → Stands (some m) s ws t → Answers (answering (some m) (M.list true (listPairs rec) buffer)) s ws t ps is r after then ps js)
+    pub turn-take : (i : ℕ) (js : List ℕ) → q .op ≡ op.Take i → ((m : Model) (ps : List ℕ) → length rec < tooLong → Stands (some m) s ws t → Answers (answering (some m) (M.readOrTake true (listPairs rec) buffer)) s ws t ps is r after then ps js)
         → Turns rec s ws t ps is r after then ps js
-    turn-take i js o g = turn-call z r after then ps is ps js (M.list true (listPairs rec) buffer) (means (op.Take i) o) (ap isSetUp o) (λ m. g m ps)
+    turn-take i js o g = turn-call z r after then ps is ps js (M.readOrTake true (listPairs rec) buffer) (means (op.Take i) o) (ap isSetUp o) (λ m. g m ps)
 
     -- a malformed record does not come this far
     pub turn-malformed : q .op ≡ op.Malformed → Turns rec s ws t ps is r after then ps is

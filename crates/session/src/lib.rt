@@ -77,7 +77,7 @@ fn do_choose(
     rc: readcondition::ReadCondition,
     pairs: &mut [u64; Reply::PAIRS_SIZE],
 ) -> Replied
-    ensures { λ r. ⌜ ((m : Model) (is : List ℕ) → Stands (Option.some m) s (now (ws .entry)) (now (t .entry)) → Answers (answering (Option.some m) (model.look Option.none rc buffer)) s (now (ws .entry)) (now (t .entry)) (now (pairs .entry)) is r (now (ws .entry)) (now (t .entry)) (now (pairs .exit)) is) ⌝ }
+    ensures { λ r. ⌜ ((m : Model) (is : List ℕ) → Stands (Option.some m) s (now (ws .entry)) (now (t .entry)) → Answers (answering (Option.some m) (model.choose Option.none rc buffer)) s (now (ws .entry)) (now (t .entry)) (now (pairs .entry)) is r (now (ws .entry)) (now (t .entry)) (now (pairs .exit)) is) ⌝ }
 {
     let head = s.head;
     let r = datasample_select::choose(head, ws, t, select::Within::All, rc, pairs);
@@ -92,7 +92,7 @@ fn do_choose_within(
     rc: readcondition::ReadCondition,
     pairs: &mut [u64; Reply::PAIRS_SIZE],
 ) -> Replied
-    ensures { λ r. ⌜ ((m : Model) (is : List ℕ) → Stands (Option.some m) s (now (ws .entry)) (now (t .entry)) → Answers (answering (Option.some m) (model.look (Option.some instance) rc buffer)) s (now (ws .entry)) (now (t .entry)) (now (pairs .entry)) is r (now (ws .entry)) (now (t .entry)) (now (pairs .exit)) is) ⌝ }
+    ensures { λ r. ⌜ ((m : Model) (is : List ℕ) → Stands (Option.some m) s (now (ws .entry)) (now (t .entry)) → Answers (answering (Option.some m) (model.choose (Option.some instance) rc buffer)) s (now (ws .entry)) (now (t .entry)) (now (pairs .entry)) is r (now (ws .entry)) (now (t .entry)) (now (pairs .exit)) is) ⌝ }
 {
     let head = s.head;
     let r = datasample_select::choose_within(head, ws, t, instance, rc, pairs);
@@ -109,7 +109,7 @@ fn do_list(
     take: bool,
     infos: &mut [u64; Reply::INFOS_SIZE],
 ) -> Replied
-    ensures { λ r. ⌜ ((m : Model) (ps : List ℕ) → length (now (rec .entry)) < tooLong → Stands (Option.some m) s (now (ws .entry)) (now (t .entry)) → Answers (answering (Option.some m) (model.list take (listPairs (now (rec .entry))) buffer)) s (now (ws .entry)) (now (t .entry)) ps (now (infos .entry)) r (now (ws .exit)) (now (t .exit)) ps (now (infos .exit))) ⌝ }
+    ensures { λ r. ⌜ ((m : Model) (ps : List ℕ) → length (now (rec .entry)) < tooLong → Stands (Option.some m) s (now (ws .entry)) (now (t .entry)) → Answers (answering (Option.some m) (model.readOrTake take (listPairs (now (rec .entry))) buffer)) s (now (ws .entry)) (now (t .entry)) ps (now (infos .entry)) r (now (ws .exit)) (now (t .exit)) ps (now (infos .exit))) ⌝ }
 {
     let head = s.head;
     let mut list = [0u64; Request::LIST_WORDS];
@@ -126,7 +126,7 @@ fn do_list(
 // ---- the no-writers event, and the next key
 
 fn do_no_writers(s: Session, ws: &mut [u64; Cache::WORDS], instance: u64) -> Replied
-    ensures { λ r. ⌜ ((m : Model) (t : List Sample) (ps is : List ℕ) → Stands (Option.some m) s (now (ws .entry)) t → Answers (answering (Option.some m) (model.dies instance)) s (now (ws .entry)) t ps is r (now (ws .exit)) t ps is) ⌝ }
+    ensures { λ r. ⌜ ((m : Model) (t : List Sample) (ps is : List ℕ) → Stands (Option.some m) s (now (ws .entry)) t → Answers (answering (Option.some m) (model.noWriters instance)) s (now (ws .entry)) t ps is r (now (ws .exit)) t ps is) ⌝ }
 {
     let head = s.head;
     let r = datasample_cache::no_writers(head, ws, instance);
@@ -137,7 +137,7 @@ fn do_no_writers(s: Session, ws: &mut [u64; Cache::WORDS], instance: u64) -> Rep
 }
 
 fn do_next_key(s: Session, ws: &[u64; Cache::WORDS], instance: u64) -> Replied
-    ensures { λ r. ⌜ ((m : Model) (t : List Sample) (ps is : List ℕ) → Stands (Option.some m) s (now (ws .entry)) t → Answers (answering (Option.some m) (model.after instance)) s (now (ws .entry)) t ps is r (now (ws .entry)) t ps is) ⌝ }
+    ensures { λ r. ⌜ ((m : Model) (t : List Sample) (ps is : List ℕ) → Stands (Option.some m) s (now (ws .entry)) t → Answers (answering (Option.some m) (model.nextKey instance)) s (now (ws .entry)) t ps is r (now (ws .entry)) t ps is) ⌝ }
 {
     let head = s.head;
     let r = datasample_cache::next_key(head, ws, instance);
