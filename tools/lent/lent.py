@@ -18,6 +18,7 @@ Functions whose signature has a reference to a record are lent. Records and lent
 lent.txt. FN: only these (default: all). Options: --list (say what would be done), --keep DIR (leave the twins there), --force
 (write a starting Proof.antt.new even where there is a Proof.antt)."""
 import glob, os, re, shutil, subprocess, sys, tempfile
+sys.dont_write_bytecode = True
 import shorter
 
 WIDTH = 190

@@ -18,9 +18,10 @@ import re
 SMALL = re.compile(r"(?:[tTgGsmbyrzOΔWd]|at|lay|put|ps·|r·)\d+")        # the names that a derivation numbers
 WIDTH = 190                                                              # of a line, as far as it can be broken
 CHAIN = 8         # so many steps in a declaration at most: what the types of the steps tell grows with the square
-DEPTH = 12        # so many changes at most stand between a context and one that is written out
+DEPTH = 3         # so many changes at most stand between a context and one that is written out: more of them, and the check takes longer
 
 # ---------------------------------------------------------------- token trees: a term is a tuple of tokens and of groups (bracket, term)
+# The name of a field in `record { f = x }` is the token @f: it is no use of f
 
 TOKEN = re.compile(r'"(?:\\.|[^"\\])*"|[(){},;]|«[^»]*»|[^\s(){},;"]+')
 
@@ -32,6 +33,7 @@ def tree(words_):
         elif t in ")}":
             bracket_, inner = stack.pop()
             if inner and inner[-1] in (",", ";"): inner.pop()
+            if bracket_ == "{": inner = ["@" + t if after == "=" else t for t, after in zip(inner, inner[1:] + [""])]
             stack[-1][1].append((bracket_, tuple(inner)))
         else: stack[-1][1].append(t)
     return tuple(stack[0][1])
@@ -41,7 +43,7 @@ def text(ts):
     out = []
     for t in ts:
         if t in (",", ";"): out[-1] += t
-        elif isinstance(t, str): out.append(t)
+        elif isinstance(t, str): out.append(t.lstrip("@"))
         elif t[0] == "(": out.append("(" + text(t[1]) + ")")
         else: out.append("{ " + text(t[1]) + " }" if out[-1:] == ["record"] and t[1] else "{" + text(t[1]) + "}")
     return " ".join(out)
@@ -90,7 +92,7 @@ def split(ts, mark):
 def fields(ts):
     """record { a = x; b = y }  ->  {a: x, b: y}, else None"""
     if len(ts) != 2 or ts[0] != "record" or leaf(ts[1]) or ts[1][0] != "{": return None
-    return {p[0]: p[2:] for p in split(ts[1][1], ";") if p}
+    return {p[0][1:]: p[2:] for p in split(ts[1][1], ";") if p}
 
 def binders(type_):
     """the named explicit arguments with which a type begins: [(name, group)]"""
@@ -108,6 +110,7 @@ def uses_of(ts, names):
 # ---------------------------------------------------------------- declarations
 
 class Decl:
+    kept = False           # as it is: a variable or a field has the same name
     def __init__(self, marks, name, type_, args, body): self.marks, self.name, self.type, self.args, self.body = marks, name, type_, args, body
     def lines(self): return [f"{self.marks}{self.name} : {text(self.type)}", f"{' '.join((self.name,) + self.args)} = {text(self.body)}"]
     def parts(self): return [self.type, self.body]
@@ -125,7 +128,7 @@ class Section:
     def parts(self): return [self.params]
     def each(self, f): self.params = f(self.params)
 
-def is_decl(x, pattern): return isinstance(x, Decl) and re.fullmatch(pattern, x.name)
+def is_decl(x, pattern): return isinstance(x, Decl) and not x.kept and re.fullmatch(pattern, x.name)
 
 def everything(its):
     """the declarations, records and sections, in order"""
@@ -138,6 +141,25 @@ def lists(its):
     yield its
     for x in its:
         if isinstance(x, Section): yield from lists(x.items)
+
+def keep_apart(its):
+    """a numbered declaration stays as it is if a variable or a field of the program has its name, as a loop's `t1`"""
+    taken = set()
+    for x in everything(its):
+        taken |= set(getattr(x, "args", ())) | {n for n, _ in getattr(x, "fields", ())}
+        for part in x.parts(): taken |= set(bound(part))
+    for x in everything(its):
+        if isinstance(x, Decl): x.kept = x.name in taken
+
+def bound(ts):
+    """the variables that a term binds"""
+    for i, t in enumerate(ts):
+        if not leaf(t):
+            if t[1][1:2] == (":",) and leaf(t[1][0]): yield t[1][0]
+            yield from bound(t[1])
+        elif t == "λ":
+            k = next(k for k in range(i, len(ts)) if leaf(ts[k]) and ts[k].endswith("."))
+            yield from (w.rstrip(".") for w in ts[i+1:k+1] if leaf(w))
 
 def change(its, f):
     for x in everything(its): x.each(f)
@@ -350,10 +372,10 @@ MODULES = {"T": "borrow.Table.Typed", "R": "borrow.Table.Row", "W": "borrow.Tabl
 GHOST, STMT, TYPED = "{T}.Ghost 𝓤 H A E", "{T}.Stmt 𝓤 H A 𝓣 E", "{T}.Typed 𝓤 H A 𝓣 E"
 CODE = "{Γ Γ₁ : {R}.Cx} {a b : {Y}.Body} {Δ : {T}.Outs} "
 RULES = [
-  ("pre", "T.g-pre", 12, "{Γ Γ₁ : {R}.Cx} {b : {Y}.Body} {Δ : {T}.Outs} {φ : {T}.Tf Γ Γ₁} {Φ : {T}.TF Γ₁ Δ} → "
-   + GHOST + " Γ Γ₁ φ → " + TYPED + " Γ₁ b Δ Φ → " + TYPED + " Γ b Δ (λ Ψ. φ (Φ Ψ))", "𝓤 H A W 𝓣 E _ _ _ _ _ _"),
-  ("seq", "T.s-seq", 13, CODE + "{φ : {T}.Tf Γ Γ₁} {Φ : {T}.TF Γ₁ Δ} → "
-   + STMT + " Γ a Γ₁ φ → " + TYPED + " Γ₁ b Δ Φ → " + TYPED + " Γ ({Y}.seq a b) Δ (λ Ψ. φ (Φ Ψ))", "𝓤 H A W 𝓣 E _ _ _ _ _ _ _"),
+  ("pre", "T.g-pre", 12, "{Γ Γ₁ : {R}.Cx} {b : {Y}.Body} {Δ : {T}.Outs} {Φ : {T}.TF Γ₁ Δ} (φ : {T}.Tf Γ Γ₁) → "
+   + GHOST + " Γ Γ₁ φ → " + TYPED + " Γ₁ b Δ Φ → " + TYPED + " Γ b Δ (λ Ψ. φ (Φ Ψ))", "𝓤 H A W 𝓣 E _ _ _ _ φ _"),
+  ("seq", "T.s-seq", 13, CODE + "{Φ : {T}.TF Γ₁ Δ} (φ : {T}.Tf Γ Γ₁) → "
+   + STMT + " Γ a Γ₁ φ → " + TYPED + " Γ₁ b Δ Φ → " + TYPED + " Γ ({Y}.seq a b) Δ (λ Ψ. φ (Φ Ψ))", "𝓤 H A W 𝓣 E _ _ _ _ _ φ _"),
   ("then", "T.t-seq", 13, CODE + "{Φ : {T}.TF Γ ({T}.withNext ({O}.some Γ₁) Δ)} {Φ₁ : {T}.TF Γ₁ Δ} → "
    + TYPED + " Γ a ({T}.withNext ({O}.some Γ₁) Δ) Φ → " + TYPED + " Γ₁ b Δ Φ₁ → " + TYPED + " Γ ({Y}.seq a b) Δ (λ Ψ. Φ ({T}.wantNext Γ₁ Δ (Φ₁ Ψ) Ψ))", "𝓤 H A W 𝓣 E _ _ _ _ _ _ _"),
   ("post", "T.g-post", 12, "{Γ Γ₁ Γ₂ : {R}.Cx} {a : {Y}.Body} {φ : {T}.Tf Γ Γ₁} {φ′ : {T}.Tf Γ₁ Γ₂} → "
@@ -391,7 +413,7 @@ def short_rules(its, al):
     block, at = derivation(its); made_ = []
     for name, rule, n, type_, given in RULES:
         long = f"{al.get(MODULES[rule[0]])}.{rule[2:]}"
-        new = Decl("", name, resolved(type_, al), (), tree(f"{long} {given}"))
+        new = Decl("", name, resolved(type_, al), ("φ",) if "φ" in given.split() else (), tree(f"{long} {given}"))
         less = sum(len(text(p)) - len(text(by_rule(p, long, name, n))) for x in block for p in x.parts())
         if less <= sum(map(len, new.lines())) and name not in ("pre", "seq"): continue
         for x in block: x.each(lambda ts: by_rule(ts, long, name, n))
@@ -399,11 +421,14 @@ def short_rules(its, al):
     block[at:at] = made_
 
 def by_rule(ts, long, name, n):
-    """each use of a rule by its short name, without its first n arguments; that a lifetime is fresh, a tuple of `tt`, is told by its type"""
+    """each use of a rule by its short name, without its first n arguments, but for the transformer of a step: told, it would be compared with
+    what the whole rest of the code asks. That a lifetime is fresh, a tuple of `tt`, is told by its type"""
     out, skip = [], 0
-    for t in ts:
+    for i, t in enumerate(ts):
         if skip: skip -= 1
-        elif t == long: out.append(name); skip = n
+        elif t == long:
+            out.append(name); skip = n
+            if name in ("pre", "seq"): out.append(ts[i + n - 1])
         elif leaf(t): out.append(t)
         else: out.append("_" if name == "begin" and out[-2:-1] == ["begin"] else (t[0], by_rule(t[1], long, name, n)))
     return tuple(out)
@@ -597,9 +622,9 @@ def as_record(before, given, record, second):
     """the record of which these are parts, or a record made of them"""
     x = path(before, ".κs" if record == "Start" else ".before")
     if x: return bracket(x)
-    if second[0].startswith("."): field, value = second[0][1:], ("record", ("{", ("given", "=") + opened(given)))
+    if second[0].startswith("."): field, value = second[0][1:], ("record", ("{", ("@given", "=") + opened(given)))
     else: field, value = second[0][len("After-"):-len("·gave")], tree("Called.called _ _ _ _ _ _") + (given,)
-    return ("(", ("record", ("{", ("before", "=") + opened(before) + (";", field, "=") + value)))
+    return ("(", ("record", ("{", ("@before", "=") + opened(before) + (";", "@" + field, "=") + value)))
 
 def opened(t): return (t,) if leaf(t) else t[1]
 
@@ -681,9 +706,9 @@ def lets(ts, kinds, free):
     if i is None: return inside(ts, lambda t: lets(t, kinds, free))
     k = next(j for j in range(i, len(ts)) if leaf(ts[j]) and ts[j].endswith("."))
     end = next((j for j in range(k, len(ts)) if ts[j] in (",", ";")), len(ts))
-    bound_, body, head, found = {w.rstrip(".") for w in words(ts[i+1:k+1])}, ts[k+1:end], (), {}
+    fresh, body, head, found = {w.rstrip(".") for w in words(ts[i+1:k+1])}, ts[k+1:end], (), {}
     for r in made(body):
-        mine = lambda q: kind_of(q, kinds) and bound_ & set(words(q[1]))
+        mine = lambda q: kind_of(q, kinds) and fresh & set(words(q[1]))
         if mine(r) and not any(mine(q) for q in made(r[1])): found[r] = found.get(r, 0) + 1
     for r in [r for r, n in found.items() if n > 1]:
         name = next(free)
@@ -757,7 +782,7 @@ def variables(its):
         mine = dict(short)
         if "c" not in {w for part in x.parts() for w in words(part)} | set(getattr(x, "args", ())):
             mine["before·"] = "c"
-            if isinstance(x, Decl) and x.args[:1] == ("before",) and "record" not in words(x.body): mine["before"] = "c"
+            if isinstance(x, Decl) and x.args[:1] == ("before",): mine["before"] = "c"
         x.each(lambda ts: rename(ts, mine))
         if isinstance(x, Decl):
             x.args = tuple(mine.get(n, n) for n in x.args)
@@ -784,7 +809,7 @@ def shorten(t):
 def shorter_by_one(t):
     head = [l for l in t.split("\n") if l.startswith(("use ", "--"))]
     its, _ = items([x for x in joined(t) if not x[1].startswith(("use ", "--"))], 0, 0)
-    al = aliases(head)
+    al = aliases(head); keep_apart(its)
     its = flat(its); clauses(its); unused_arguments(its); once(its); known_types(its); places(its, al); derive_shorter(its, al)
     tables(its, al); used(its); inlined(its, r"[GzbOΔ]\d+"); leases(its, al); used(its)
     shapes = {tuple(n for n, _ in x.fields) for x in everything(its) if isinstance(x, Record)}

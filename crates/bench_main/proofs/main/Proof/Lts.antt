@@ -155,6 +155,9 @@ r6 = Rows'.any-gone y0
 abbrev r7 : Row.Row
 r7 = Rows'.any-gone y1
 
+abbrev r8 : Row.Row
+r8 = Rows'.any-gone y2
+
 abbrev r9 : Row.Row
 r9 = Rows'.any-gone y3
 
@@ -163,6 +166,9 @@ r10 = Rows'.any-gone y4
 
 abbrev r11 : Row.Row
 r11 = Rows'.any-gone y5
+
+abbrev r12 : Row.Row
+r12 = Rows'.any-gone (L.sl y7)
 
 abbrev r13 : Row.Row
 r13 = Rows'.sslice L.u64 y6 7
@@ -205,6 +211,9 @@ r25 = Rows'.whole (Declared.row Arrival.the-type)
 
 abbrev r26 : Row.Row
 r26 = Rows'.sc-owed (Array'.Array L.u64 8342) 13
+
+abbrev r27 : Row.Row
+r27 = Rows'.whole (Declared.row Cache.the-type)
 
 abbrev r28 : Row.Row
 r28 = Rows'.sc-owed (Array'.Array L.u64 8342) 2
@@ -517,8 +526,8 @@ t0 = (0, L.gunit) ∷ (1, r47) ∷ (2, r53) ∷ (3, r37) ∷ (4, r21) ∷ (5, r1
     ∷ []
 
 abbrev t1 : List.List Row.Entry
-t1 = (16, r10) ∷ (17, r15) ∷ (18, r6) ∷ (19, L.gbool) ∷ (20, r6) ∷ (21, (Rows'.any-gone y2)) ∷ (22, r7) ∷ (23, r10) ∷ (24, r15) ∷ (25, r9) ∷ (26, r11) ∷ (27, r6) ∷
-    (28, (Rows'.any-gone (L.sl y7))) ∷ (29, r6) ∷ (30, r6) ∷ (31, r7) ∷ []
+t1 = (16, r10) ∷ (17, r15) ∷ (18, r6) ∷ (19, L.gbool) ∷ (20, r6) ∷ (21, r8) ∷ (22, r7) ∷ (23, r10) ∷ (24, r15) ∷ (25, r9) ∷ (26, r11) ∷ (27, r6) ∷ (28, r12) ∷ (29, r6) ∷ (30, r6) ∷ (31, r7)
+    ∷ []
 
 abbrev t2 : List.List Row.Entry
 t2 = (32, r10) ∷ (33, r15) ∷ (34, r6) ∷ []
@@ -538,6 +547,144 @@ t5 = (0, L.gunit) ∷ (1, r32) ∷ (2, S.here) ∷ (3, r37) ∷ (4, r21) ∷ (5,
 abbrev t6 : List.List Row.Entry
 t6 = (0, L.gunit) ∷ (1, r32) ∷ (2, S.here) ∷ (3, Rows'.whole (Array'.Array S.row 256)) ∷ (4, r21) ∷ (5, r19) ∷ (6, r23) ∷ (7, r38) ∷ (8, r48) ∷ (9, L.g64) ∷ (10, r39) ∷ (11, r41) ∷ (12, r24)
     ∷ (13, r40) ∷ (14, r44) ∷ (15, r7) ∷ []
+
+abbrev t11 : List.List Row.Entry
+t11 = (0, L.gunit) ∷ (1, r32) ∷ (2, r53) ∷ (3, r51) ∷ (4, r52) ∷ (5, Rows'.whole (Array'.Array L.u64 8342)) ∷ (6, r23) ∷ (7, r38) ∷ (8, r48) ∷ (9, L.g64) ∷ (10, r39) ∷ (11, r41) ∷ (12, r24)
+    ∷ (13, r40) ∷ (14, r44) ∷ (15, r7) ∷ []
+
+abbrev t16 : List.List Row.Entry
+t16 = (0, L.gunit) ∷ (1, r32) ∷ (2, r53) ∷ (3, r51) ∷ (4, r33) ∷ (5, r50) ∷ (6, r54) ∷ (7, r38) ∷ (8, r48) ∷ (9, L.g64) ∷ (10, r39) ∷ (11, r41) ∷ (12, r24) ∷ (13, r40) ∷ (14, r27) ∷ (15, r2)
+    ∷ []
+
+abbrev t20 : List.List Row.Entry
+t20 = (0, L.gunit) ∷ (1, r32) ∷ (2, r53) ∷ (3, r45) ∷ (4, r33) ∷ (5, r50) ∷ (6, r54) ∷ (7, r18) ∷ (8, r48) ∷ (9, L.g64) ∷ (10, r39) ∷ (11, r41) ∷ (12, r24) ∷ (13, r40) ∷ (14, r27) ∷ (15, r4)
+    ∷ []
+
+abbrev t21 : List.List Row.Entry
+t21 = (16, r10) ∷ (17, r17) ∷ (18, r6) ∷ (19, L.gbool) ∷ (20, r6) ∷ (21, r8) ∷ (22, r7) ∷ (23, r10) ∷ (24, r15) ∷ (25, r9) ∷ (26, r11) ∷ (27, r6) ∷ (28, r12) ∷ (29, r6) ∷ (30, r6) ∷ (31, r7)
+    ∷ []
+
+abbrev t25 : List.List Row.Entry
+t25 = (0, L.gunit) ∷ (1, r32) ∷ (2, r53) ∷ (3, r51) ∷ (4, r52) ∷ (5, r28) ∷ (6, r54) ∷ (7, r18) ∷ (8, r48) ∷ (9, L.g64) ∷ (10, r39) ∷ (11, r41) ∷ (12, r24) ∷ (13, r40) ∷ (14, r44) ∷ (15, r7)
+    ∷ []
+
+abbrev t26 : List.List Row.Entry
+t26 = (16, r10) ∷ (17, r15) ∷ (18, Rows'.mref (Array'.Array L.u64 8342) y0 2) ∷ (19, L.gbool) ∷ (20, r6) ∷ (21, r8) ∷ (22, r7) ∷ (23, r10) ∷ (24, r15) ∷ (25, r9) ∷ (26, r11) ∷ (27, r6) ∷
+    (28, r12) ∷ (29, r6) ∷ (30, r6) ∷ (31, r7) ∷ []
+
+abbrev t28 : List.List Row.Entry
+t28 = (16, r10) ∷ (17, r15) ∷ (18, r1) ∷ (19, L.gbool) ∷ (20, r6) ∷ (21, r8) ∷ (22, r7) ∷ (23, r10) ∷ (24, r15) ∷ (25, r9) ∷ (26, r11) ∷ (27, r6) ∷ (28, r12) ∷ (29, r6) ∷ (30, r6) ∷ (31, r7)
+    ∷ []
+
+abbrev t30 : List.List Row.Entry
+t30 = (0, L.gunit) ∷ (1, r47) ∷ (2, r53) ∷ (3, r51) ∷ (4, r52) ∷ (5, r28) ∷ (6, r54) ∷ (7, r38) ∷ (8, r34) ∷ (9, L.g64) ∷ (10, r39) ∷ (11, r41) ∷ (12, r24) ∷ (13, r40) ∷ (14, r44) ∷ (15, r7)
+    ∷ []
+
+abbrev t32 : List.List Row.Entry
+t32 = (16, r10) ∷ (17, r15) ∷ (18, r6) ∷ (19, L.hbool) ∷ (20, r6) ∷ (21, r8) ∷ (22, r7) ∷ (23, r10) ∷ (24, r15) ∷ (25, r9) ∷ (26, r11) ∷ (27, r6) ∷ (28, r12) ∷ (29, r6) ∷ (30, r6) ∷ (31, r7)
+    ∷ []
+
+abbrev t33 : List.List Row.Entry
+t33 = (0, L.gunit) ∷ (1, r47) ∷ (2, r53) ∷ (3, r37) ∷ (4, r52) ∷ (5, r50) ∷ (6, r54) ∷ (7, r38) ∷ (8, r34) ∷ (9, L.g64) ∷ (10, r39) ∷ (11, r41) ∷ (12, r24) ∷ (13, r40) ∷ (14, r44) ∷ (15, r7)
+    ∷ []
+
+abbrev t39 : List.List Row.Entry
+t39 = (0, L.gunit) ∷ (1, r47) ∷ (2, r53) ∷ (3, r51) ∷ (4, r52) ∷ (5, r29) ∷ (6, r36) ∷ (7, r38) ∷ (8, r34) ∷ (9, L.g64) ∷ (10, r39) ∷ (11, r41) ∷ (12, r24) ∷ (13, r40) ∷ (14, r44) ∷ (15, r7)
+    ∷ []
+
+abbrev t40 : List.List Row.Entry
+t40 = (16, r10) ∷ (17, r15) ∷ (18, r6) ∷ (19, L.gbool) ∷ (20, r0) ∷ (21, Rows'.mref (Array'.Array L.u64 8) y2 4) ∷ (22, r7) ∷ (23, r10) ∷ (24, r15) ∷ (25, r9) ∷ (26, r11) ∷ (27, r6) ∷
+    (28, r12) ∷ (29, r6) ∷ (30, r6) ∷ (31, r7) ∷ []
+
+abbrev t43 : List.List Row.Entry
+t43 = (0, L.gunit) ∷ (1, r47) ∷ (2, r53) ∷ (3, r51) ∷ (4, r52) ∷ (5, r50) ∷ (6, r36) ∷ (7, r38) ∷ (8, r34) ∷ (9, L.h64) ∷ (10, r39) ∷ (11, r41) ∷ (12, r24) ∷ (13, r40) ∷ (14, r44) ∷ (15, r7)
+    ∷ []
+
+abbrev t44 : List.List Row.Entry
+t44 = (16, r10) ∷ (17, r15) ∷ (18, r6) ∷ (19, L.gbool) ∷ (20, r6) ∷ (21, r5) ∷ (22, r7) ∷ (23, r10) ∷ (24, r15) ∷ (25, r9) ∷ (26, r11) ∷ (27, r6) ∷ (28, r12) ∷ (29, r6) ∷ (30, r6) ∷ (31, r7)
+    ∷ []
+
+abbrev t46 : List.List Row.Entry
+t46 = (0, L.gunit) ∷ (1, r47) ∷ (2, r53) ∷ (3, r51) ∷ (4, r35) ∷ (5, r50) ∷ (6, r54) ∷ (7, r38) ∷ (8, r34) ∷ (9, L.h64) ∷ (10, r39) ∷ (11, r41) ∷ (12, r24) ∷ (13, r40) ∷ (14, r44) ∷ (15, r7)
+    ∷ []
+
+abbrev t47 : List.List Row.Entry
+t47 = (16, r10) ∷ (17, r15) ∷ (18, r6) ∷ (19, L.gbool) ∷ (20, r6) ∷ (21, r8) ∷ (22, r3) ∷ (23, r10) ∷ (24, r15) ∷ (25, r9) ∷ (26, r11) ∷ (27, r6) ∷ (28, r12) ∷ (29, r6) ∷ (30, r6) ∷ (31, r7)
+    ∷ []
+
+abbrev t51 : List.List Row.Entry
+t51 = (0, L.gunit) ∷ (1, r47) ∷ (2, r53) ∷ (3, r46) ∷ (4, r35) ∷ (5, r50) ∷ (6, r49) ∷ (7, r38) ∷ (8, r34) ∷ (9, L.h64) ∷ (10, r39) ∷ (11, r41) ∷ (12, r24) ∷ (13, r40) ∷ (14, r44) ∷ (15, r7)
+    ∷ []
+
+abbrev t52 : List.List Row.Entry
+t52 = (16, r10) ∷ (17, r15) ∷ (18, r6) ∷ (19, L.gbool) ∷ (20, r6) ∷ (21, r8) ∷ (22, r3) ∷ (23, r10) ∷ (24, r16) ∷ (25, Relend.ssptr L.u64 y3 7) ∷ (26, r11) ∷ (27, r6) ∷ (28, r12) ∷ (29, r6)
+    ∷ (30, r6) ∷ (31, r7) ∷ []
+
+abbrev t54 : List.List Row.Entry
+t54 = (0, L.gunit) ∷ (1, r47) ∷ (2, r53) ∷ (3, r46) ∷ (4, r35) ∷ (5, r42) ∷ (6, r49) ∷ (7, r38) ∷ (8, r34) ∷ (9, L.h64) ∷ (10, r39) ∷ (11, r41) ∷ (12, r24) ∷ (13, r40) ∷ (14, r44) ∷ (15, r7)
+    ∷ []
+
+abbrev t55 : List.List Row.Entry
+t55 = (16, r10) ∷ (17, r15) ∷ (18, r6) ∷ (19, L.gbool) ∷ (20, r6) ∷ (21, r8) ∷ (22, r3) ∷ (23, r10) ∷ (24, r16) ∷ (25, r9) ∷ (26, r13) ∷ (27, Relend.msptr L.u64 y0 8) ∷ (28, r12) ∷ (29, r6)
+    ∷ (30, r6) ∷ (31, r7) ∷ []
+
+abbrev t57 : List.List Row.Entry
+t57 = (0, L.gunit) ∷ (1, r47) ∷ (2, r53) ∷ (3, r46) ∷ (4, r35) ∷ (5, r42) ∷ (6, r49) ∷ (7, r38) ∷ (8, r34) ∷ (9, L.h64) ∷ (10, r20) ∷ (11, r41) ∷ (12, r24) ∷ (13, r40) ∷ (14, r44) ∷ (15, r7)
+    ∷ []
+
+abbrev t58 : List.List Row.Entry
+t58 = (16, r10) ∷ (17, r15) ∷ (18, r6) ∷ (19, L.gbool) ∷ (20, r6) ∷ (21, r8) ∷ (22, r4) ∷ (23, r10) ∷ (24, r17) ∷ (25, r9) ∷ (26, r13) ∷ (27, r6) ∷ (28, r14) ∷ (29, r6) ∷ (30, r6) ∷ (31, r7)
+    ∷ []
+
+abbrev t62 : List.List Row.Entry
+t62 = (0, L.gunit) ∷ (1, r47) ∷ (2, r53) ∷ (3, r51) ∷ (4, r52) ∷ (5, r42) ∷ (6, r49) ∷ (7, r38) ∷ (8, r34) ∷ (9, L.h64) ∷ (10, r20) ∷ (11, r41) ∷ (12, r24) ∷ (13, r40) ∷ (14, r44) ∷ (15, r7)
+    ∷ []
+
+abbrev t63 : List.List Row.Entry
+t63 = (16, r10) ∷ (17, r15) ∷ (18, r6) ∷ (19, L.gbool) ∷ (20, r6) ∷ (21, r8) ∷ (22, r7) ∷ (23, r10) ∷ (24, r15) ∷ (25, r9) ∷ (26, r11) ∷ (27, r6) ∷ (28, r14) ∷ (29, r6) ∷ (30, r6) ∷ (31, r7)
+    ∷ []
+
+abbrev t66 : List.List Row.Entry
+t66 = (0, L.gunit) ∷ (1, r47) ∷ (2, r53) ∷ (3, r51) ∷ (4, r52) ∷ (5, r30) ∷ (6, r54) ∷ (7, r38) ∷ (8, r34) ∷ (9, L.h64) ∷ (10, r20) ∷ (11, r41) ∷ (12, r24) ∷ (13, r40) ∷ (14, r44) ∷ (15, r7)
+    ∷ []
+
+abbrev t67 : List.List Row.Entry
+t67 = (16, r10) ∷ (17, r15) ∷ (18, r6) ∷ (19, L.gbool) ∷ (20, r6) ∷ (21, r8) ∷ (22, r7) ∷ (23, r10) ∷ (24, r15) ∷ (25, r9) ∷ (26, r11) ∷ (27, r6) ∷ (28, r12) ∷
+    (29, Rows'.mref (Array'.Array L.u64 8342) y0 9) ∷ (30, r6) ∷ (31, r7) ∷ []
+
+abbrev t73 : List.List Row.Entry
+t73 = (0, L.gunit) ∷ (1, r47) ∷ (2, r53) ∷ (3, r51) ∷ (4, r52) ∷ (5, Rows'.sc-owed (Array'.Array L.u64 8342) 10) ∷ (6, r54) ∷ (7, r38) ∷ (8, r34) ∷ (9, L.g64) ∷ (10, r39) ∷ (11, r25) ∷
+    (12, r24) ∷ (13, r40) ∷ (14, r44) ∷ (15, r7) ∷ []
+
+abbrev t74 : List.List Row.Entry
+t74 = (16, r10) ∷ (17, r15) ∷ (18, r6) ∷ (19, L.gbool) ∷ (20, r6) ∷ (21, r8) ∷ (22, r7) ∷ (23, r10) ∷ (24, r15) ∷ (25, r9) ∷ (26, r11) ∷ (27, r6) ∷ (28, r12) ∷ (29, r6) ∷ (30, r1) ∷ (31, r7)
+    ∷ []
+
+abbrev t77 : List.List Row.Entry
+t77 = (0, L.gunit) ∷ (1, r47) ∷ (2, r53) ∷ (3, r51) ∷ (4, r31) ∷ (5, r50) ∷ (6, r54) ∷ (7, r38) ∷ (8, r34) ∷ (9, L.g64) ∷ (10, r39) ∷ (11, r25) ∷ (12, r55) ∷ (13, r40) ∷ (14, r44) ∷ (15, r7)
+    ∷ []
+
+abbrev t78 : List.List Row.Entry
+t78 = (16, r10) ∷ (17, r15) ∷ (18, r6) ∷ (19, L.gbool) ∷ (20, r6) ∷ (21, r8) ∷ (22, r7) ∷ (23, r10) ∷ (24, r15) ∷ (25, r9) ∷ (26, r11) ∷ (27, r6) ∷ (28, r12) ∷ (29, r6) ∷ (30, r6) ∷
+    (31, Rows'.mref (Array'.Array L.u64 928) y1 11) ∷ []
+
+abbrev t82 : List.List Row.Entry
+t82 = (0, L.gunit) ∷ (1, r47) ∷ (2, r53) ∷ (3, r43) ∷ (4, r31) ∷ (5, r50) ∷ (6, r54) ∷ (7, r38) ∷ (8, r34) ∷ (9, L.g64) ∷ (10, r39) ∷ (11, r25) ∷ (12, r55) ∷ (13, r22) ∷ (14, r44) ∷ (15, r7)
+    ∷ []
+
+abbrev t83 : List.List Row.Entry
+t83 = (16, r10) ∷ (17, r15) ∷ (18, r6) ∷ (19, L.gbool) ∷ (20, r6) ∷ (21, r8) ∷ (22, r7) ∷ (23, r10) ∷ (24, r15) ∷ (25, r9) ∷ (26, r11) ∷ (27, r6) ∷ (28, r12) ∷ (29, r6) ∷ (30, r6) ∷ (31, r4)
+    ∷ []
+
+abbrev t84 : List.List Row.Entry
+t84 = (32, r10) ∷ (33, r17) ∷ (34, r6) ∷ []
+
+abbrev t88 : List.List Row.Entry
+t88 = (0, L.gunit) ∷ (1, r47) ∷ (2, r53) ∷ (3, r51) ∷ (4, r52) ∷ (5, r26) ∷ (6, r54) ∷ (7, r38) ∷ (8, r34) ∷ (9, L.g64) ∷ (10, r39) ∷ (11, r25) ∷ (12, r24) ∷ (13, r22) ∷ (14, r44) ∷ (15, r7)
+    ∷ []
+
+abbrev t89 : List.List Row.Entry
+t89 = (32, r10) ∷ (33, r15) ∷ (34, Rows'.mref (Array'.Array L.u64 8342) y0 13) ∷ []
 
 abbrev on : Nat.ℕ → Row.Row → Row.Cx → Row.Cx
 on n r Γ = record { locals = Row.setRow n (n, r) (Γ .locals); slots = Γ .slots }
@@ -576,10 +723,10 @@ abbrev T8 : Row.Cx
 T8 = on 4 r52 T6
 
 abbrev T9 : Row.Cx
-T9 = on 5 (Rows'.whole (Array'.Array L.u64 8342)) T8
+T9 = record { locals = List._++_ t11 (List._++_ t1 t2); slots = [] }
 
 abbrev T10 : Row.Cx
-T10 = on 5 r50 T8
+T10 = on 5 r50 T9
 
 abbrev T11 : Row.Cx
 T11 = on 6 (Rows'.whole (Array'.Array L.u64 8)) T10
@@ -588,10 +735,10 @@ abbrev T12 : Row.Cx
 T12 = on 6 r54 T10
 
 abbrev T13 : Row.Cx
-T13 = on 14 (Rows'.whole (Declared.row Cache.the-type)) T12
+T13 = on 14 r27 T12
 
 abbrev T15 : Row.Cx
-T15 = on 15 r2 (on 4 r33 T13)
+T15 = record { locals = List._++_ t16 (List._++_ t1 t2); slots = [] }
 
 abbrev T17 : Row.Cx
 T17 = on 16 (Relend.msptr S.row y4 1) (on 3 r45 T15)
@@ -600,10 +747,10 @@ abbrev T18 : Row.Cx
 T18 = on 17 (Mut.mslice S.row y9 1) (on 3 r45 T15)
 
 abbrev T20 : Row.Cx
-T20 = on 17 r17 (on 15 r4 (on 7 r18 (on 3 r45 T15)))
+T20 = record { locals = List._++_ t20 (List._++_ t21 t2); slots = [] }
 
 abbrev T21 : Row.Cx
-T21 = on 17 r17 (on 15 r4 (on 7 r18 (on 4 r33 (on 3 r45 T12))))
+T21 = on 14 r44 T20
 
 abbrev T23 : Row.Cx
 T23 = on 15 r7 (on 4 r52 T21)
@@ -612,7 +759,7 @@ abbrev T26 : Row.Cx
 T26 = on 7 r18 T12
 
 abbrev T29 : Row.Cx
-T29 = on 18 (Rows'.mref (Array'.Array L.u64 8342) y0 2) (on 5 r28 T26)
+T29 = record { locals = List._++_ t25 (List._++_ t26 t2); slots = [] }
 
 abbrev T30 : Row.Cx
 T30 = on 18 r1 (on 8 r34 T29)
@@ -621,16 +768,16 @@ abbrev T32 : Row.Cx
 T32 = on 1 r47 T30
 
 abbrev T33 : Row.Cx
-T33 = on 7 r38 T32
+T33 = record { locals = List._++_ t30 (List._++_ t28 t2); slots = [] }
 
 abbrev T35 : Row.Cx
-T35 = on 8 r34 (on 1 r47 T12)
+T35 = on 18 r6 (on 5 r50 T33)
 
 abbrev T38 : Row.Cx
 T38 = on 19 L.hbool T35
 
 abbrev T41 : Row.Cx
-T41 = on 3 r37 T38
+T41 = record { locals = List._++_ t33 (List._++_ t32 t2); slots = [] }
 
 abbrev T42 : Row.Cx
 T42 = on 4 r21 T41
@@ -645,22 +792,22 @@ abbrev T45 : Row.Cx
 T45 = on 19 L.hbool T0
 
 abbrev T50 : Row.Cx
-T50 = on 20 r0 (on 5 r29 T35)
+T50 = on 20 r0 (on 18 r6 (on 5 r29 T33))
 
 abbrev T52 : Row.Cx
-T52 = on 21 (Rows'.mref (Array'.Array L.u64 8) y2 4) (on 6 r36 T50)
+T52 = record { locals = List._++_ t39 (List._++_ t40 t2); slots = [] }
 
 abbrev T53 : Row.Cx
-T53 = on 21 r5 (on 20 r1 (on 9 L.h64 (on 6 r36 (on 5 r29 T35))))
+T53 = on 21 r5 (on 20 r1 (on 9 L.h64 T52))
 
 abbrev T55 : Row.Cx
-T55 = on 21 r5 (on 9 L.h64 (on 6 r36 T35))
+T55 = record { locals = List._++_ t43 (List._++_ t44 t2); slots = [] }
 
 abbrev T58 : Row.Cx
 T58 = on 9 L.h64 T35
 
 abbrev T61 : Row.Cx
-T61 = on 22 r3 (on 4 r35 T58)
+T61 = record { locals = List._++_ t46 (List._++_ t47 t2); slots = [] }
 
 abbrev T63 : Row.Cx
 T63 = on 23 (Relend.msptr S.row y4 6) (on 3 r46 T61)
@@ -669,88 +816,88 @@ abbrev T64 : Row.Cx
 T64 = on 24 r16 (on 3 r46 T61)
 
 abbrev T66 : Row.Cx
-T66 = on 25 (Relend.ssptr L.u64 y3 7) (on 24 r16 (on 22 r3 (on 9 L.h64 (on 8 r34 (on 6 r49 (on 5 r50 (on 4 r35 (on 3 r46 T0))))))))
+T66 = record { locals = List._++_ t51 (List._++_ t52 t2); slots = [] }
 
 abbrev T67 : Row.Cx
 T67 = on 26 r13 (on 25 r9 T66)
 
 abbrev T69 : Row.Cx
-T69 = on 27 (Relend.msptr L.u64 y0 8) (on 26 r13 (on 24 r16 (on 22 r3 (on 9 L.h64 (on 8 r34 (on 6 r49 (on 5 r42 (on 4 r35 (on 3 r46 T0)))))))))
+T69 = record { locals = List._++_ t54 (List._++_ t55 t2); slots = [] }
 
 abbrev T70 : Row.Cx
 T70 = on 28 (Mut.mslice L.u64 y7 8) (on 27 r6 T69)
 
 abbrev T71 : Row.Cx
-T71 = on 28 r14 (on 26 r13 (on 24 r17 (on 22 r4 (on 10 r20 (on 9 L.h64 (on 8 r34 (on 6 r49 (on 5 r42 (on 4 r35 (on 3 r46 T0))))))))))
+T71 = record { locals = List._++_ t57 (List._++_ t58 t2); slots = [] }
 
 abbrev T72 : Row.Cx
 T72 = on 26 r11 T71
 
 abbrev T74 : Row.Cx
-T74 = on 28 r14 (on 24 r17 (on 10 r20 (on 9 L.h64 (on 8 r34 (on 6 r49 (on 5 r42 (on 4 r52 (on 3 r46 T0))))))))
+T74 = on 22 r7 (on 4 r52 T72)
 
 abbrev T77 : Row.Cx
-T77 = on 24 r15 (on 3 r51 T74)
+T77 = record { locals = List._++_ t62 (List._++_ t63 t2); slots = [] }
 
 abbrev T80 : Row.Cx
 T80 = on 6 r54 T77
 
 abbrev T83 : Row.Cx
-T83 = on 10 r20 T58
+T83 = on 28 r12 (on 5 r50 T80)
 
 abbrev T86 : Row.Cx
-T86 = on 29 (Rows'.mref (Array'.Array L.u64 8342) y0 9) (on 5 r30 T83)
+T86 = record { locals = List._++_ t66 (List._++_ t67 t2); slots = [] }
 
 abbrev T87 : Row.Cx
 T87 = on 29 r1 T86
 
 abbrev T88 : Row.Cx
-T88 = on 29 r1 (on 10 r20 (on 5 r30 T35))
+T88 = on 9 L.g64 T87
 
 abbrev T89 : Row.Cx
 T89 = on 10 r39 T88
 
 abbrev T95 : Row.Cx
-T95 = on 30 (Rows'.mref (Array'.Array L.u64 8342) y0 10) (on 5 (Rows'.sc-owed (Array'.Array L.u64 8342) 10) T35)
+T95 = on 30 (Rows'.mref (Array'.Array L.u64 8342) y0 10) (on 18 r6 (on 5 (Rows'.sc-owed (Array'.Array L.u64 8342) 10) T33))
 
 abbrev T96 : Row.Cx
-T96 = on 30 r1 (on 11 r25 T95)
+T96 = record { locals = List._++_ t73 (List._++_ t74 t2); slots = [] }
 
 abbrev T98 : Row.Cx
 T98 = on 11 r25 T35
 
 abbrev T100 : Row.Cx
-T100 = on 12 r55 T98
+T100 = on 30 r6 (on 12 r55 (on 5 r50 T96))
 
 abbrev T102 : Row.Cx
-T102 = on 31 (Rows'.mref (Array'.Array L.u64 928) y1 11) (on 4 r31 T100)
+T102 = record { locals = List._++_ t77 (List._++_ t78 t2); slots = [] }
 
 abbrev T104 : Row.Cx
-T104 = on 32 (Relend.msptr S.row y4 12) (on 31 (Rows'.mref (Array'.Array L.u64 928) y1 11) (on 12 r55 (on 11 r25 (on 8 r34 (on 6 r54 (on 5 r50 (on 4 r31 (on 3 r43 T0))))))))
+T104 = on 32 (Relend.msptr S.row y4 12) (on 3 r43 T102)
 
 abbrev T105 : Row.Cx
-T105 = on 33 (Mut.mslice S.row y9 12) (on 32 r10 T104)
+T105 = on 33 (Mut.mslice S.row y9 12) (on 3 r43 T102)
 
 abbrev T106 : Row.Cx
-T106 = on 33 r17 (on 31 r4 (on 13 r22 (on 12 r55 (on 11 r25 (on 8 r34 (on 6 r54 (on 5 r50 (on 4 r31 (on 3 r43 T0)))))))))
+T106 = record { locals = List._++_ t82 (List._++_ t83 t84); slots = [] }
 
 abbrev T107 : Row.Cx
 T107 = on 12 r24 T106
 
 abbrev T109 : Row.Cx
-T109 = on 33 r17 (on 13 r22 (on 3 r43 T98))
+T109 = on 31 r7 (on 4 r52 T107)
 
 abbrev T112 : Row.Cx
-T112 = on 13 r22 T98
+T112 = on 30 r6 (on 13 r22 (on 5 r50 T96))
 
 abbrev T115 : Row.Cx
-T115 = on 34 (Rows'.mref (Array'.Array L.u64 8342) y0 13) (on 5 r26 T112)
+T115 = record { locals = List._++_ t88 (List._++_ t1 t89); slots = [] }
 
 abbrev T116 : Row.Cx
 T116 = on 34 r1 T115
 
 abbrev T117 : Row.Cx
-T117 = on 34 r1 (on 13 r22 (on 5 r26 T35))
+T117 = on 11 r41 T116
 
 abbrev T118 : Row.Cx
 T118 = on 13 r40 T117
@@ -1376,9 +1523,6 @@ module _ (cl : Claims) where
         abbrev G7 : Row.Cx
         G7 = lives z0 T7
 
-        abbrev G8 : Row.Cx
-        G8 = lives z0 T8
-
         abbrev G9 : Row.Cx
         G9 = lives z0 T9
 
@@ -1430,13 +1574,13 @@ module _ (cl : Claims) where
               (Rows'.whole R) R (λ x. x) (λ x. x)
           copied R one c = Yields.yields-copy U H A W (λ ρ. Unit) R one c (Rows'.whole R) (λ x. x) (λ x. x) (λ ρ told. Local.mem-whole U H A W R ρ) λ ρ told. Local.whole-mem U H A W R ρ
 
-          pre : {Γ Γ₁ : Row.Cx} {b : Y.Body} {Δ : Typed.Outs} {φ : Typed.Tf Γ Γ₁} {Φ : Typed.TF Γ₁ Δ} → Typed.Ghost U H A E Γ Γ₁ φ → Typed.Typed U H A C E Γ₁ b Δ Φ → Typed.Typed U H A C E Γ
+          pre : {Γ Γ₁ : Row.Cx} {b : Y.Body} {Δ : Typed.Outs} {Φ : Typed.TF Γ₁ Δ} (φ : Typed.Tf Γ Γ₁) → Typed.Ghost U H A E Γ Γ₁ φ → Typed.Typed U H A C E Γ₁ b Δ Φ → Typed.Typed U H A C E Γ
               b Δ (λ Ψ. φ (Φ Ψ))
-          pre = Typed.g-pre U H A W C E _ _ _ _ _ _
+          pre φ = Typed.g-pre U H A W C E _ _ _ _ φ _
 
-          seq : {Γ Γ₁ : Row.Cx} {a b : Y.Body} {Δ : Typed.Outs} {φ : Typed.Tf Γ Γ₁} {Φ : Typed.TF Γ₁ Δ} → Typed.Stmt U H A C E Γ a Γ₁ φ → Typed.Typed U H A C E Γ₁ b Δ Φ → Typed.Typed U H A C
+          seq : {Γ Γ₁ : Row.Cx} {a b : Y.Body} {Δ : Typed.Outs} {Φ : Typed.TF Γ₁ Δ} (φ : Typed.Tf Γ Γ₁) → Typed.Stmt U H A C E Γ a Γ₁ φ → Typed.Typed U H A C E Γ₁ b Δ Φ → Typed.Typed U H A C
               E Γ (Y.seq a b) Δ (λ Ψ. φ (Φ Ψ))
-          seq = Typed.s-seq U H A W C E _ _ _ _ _ _ _
+          seq φ = Typed.s-seq U H A W C E _ _ _ _ _ φ _
 
           post : {Γ Γ₁ Γ₂ : Row.Cx} {a : Y.Body} {φ : Typed.Tf Γ Γ₁} {φ′ : Typed.Tf Γ₁ Γ₂} → Typed.Stmt U H A C E Γ a Γ₁ φ → Typed.Ghost U H A E Γ₁ Γ₂ φ′ → Typed.Stmt U H A C E Γ a Γ₂ (λ Ψ.
               φ (φ′ Ψ))
@@ -1463,22 +1607,24 @@ module _ (cl : Claims) where
           gone = Reads'.room-gone U H A
 
           d1 : Typed.Typed U H A C E G38 b14 Δ4 at1
-          d1 = pre (room 19 Y.tyBool (Scalar.room-sc U H A W Row.sBool)) (Typed.t-skip U H A W C E Δ4 tt)
+          d1 = pre (Typed.pass T38 T35 s36) (room 19 Y.tyBool (Scalar.room-sc U H A W Row.sBool)) (Typed.t-skip U H A W C E Δ4 tt)
 
           d8 : Typed.Typed U H A C E G38 b15 Δ4 at8
-          d8 = pre (room 3 y15 (Init.room-arr U H A W S.row 256 0 256 refl)) (pre (room 4 y11 (Init.room-arr U H A W L.u64 928 0 928 refl)) (pre (room 5 y10 (Init.room-arr U H A W L.u64 8342
-              0 8342 refl)) (pre (room 6 y12 (Init.room-arr U H A W L.u64 8 0 8 refl)) (pre (room 8 Next′.mir (Local.room-whole U H A W (Declared.row Next.the-type) Next′.mir refl)) (pre
-              (room 19 Y.tyBool (Scalar.room-sc U H A W Row.sBool)) (Typed.t-exit U H A W C E 1 Δ4 tt))))))
+          d8 = pre (Typed.pass T38 T41 s37) (room 3 y15 (Init.room-arr U H A W S.row 256 0 256 refl)) (pre (Typed.pass T41 T42 s38) (room 4 y11 (Init.room-arr U H A W L.u64 928 0 928 refl))
+              (pre (Typed.pass T42 T43 s39) (room 5 y10 (Init.room-arr U H A W L.u64 8342 0 8342 refl)) (pre (Typed.pass T43 T44 s40) (room 6 y12 (Init.room-arr U H A W L.u64 8 0 8 refl))
+              (pre (Typed.pass T44 T45 s41) (room 8 Next′.mir (Local.room-whole U H A W (Declared.row Next.the-type) Next′.mir refl)) (pre (Typed.pass T45 T0 s42) (room 19 Y.tyBool
+              (Scalar.room-sc U H A W Row.sBool)) (Typed.t-exit U H A W C E 1 Δ4 tt))))))
 
           d9 : Typed.Typed U H A C E G38 b16 Δ4 at9
           d9 = Scalar.t-cond U H A W E C _ 19 (λ x. x) b14 b15 Δ4 at1 at8 (Scalar.reads-sc U H A W Row.sBool) refl d1 d8
 
           d17 : Typed.Typed U H A C E (lives (Row.off ∷ Row.off ∷ Row.off ∷ Row.off ∷ Row.off ∷ Row.off ∷ Row.off ∷ Row.dead ∷ Row.alive ∷ Row.off ∷ Row.off ∷ Row.off ∷ Row.off ∷ Row.off ∷
               []) T77) b31 Δ3 at17
-          d17 = pre (Share.g-back-arr-shrᵖ U H A W E L.u64 _ 6 8 7 (λ x. x) (as-is r49) refl) (pre (forget 7 Row.dead refl) (pre (end 8 refl) (pre (Borrow.g-back-arr U H A W E L.u64 _ 28 5 8
-              8342 y7 (λ x. x) (λ x. x) (as-is r14) (as-is r42) refl) (pre (forget 8 Row.dead refl) (pre (begin 9 _) (seq (Local.t-sc-borrow U H A W E C _ 5 29 9 (Array'.Array L.u64 8342) y0
-              (λ x. x) (Whole.mem-arr U H A W L.u64 8342) (gone y0) refl λ b o. tt) (Typed.s-typed U H A W C E _ b30 Δ3 (λ Ψ. Typed.both s83 (Typed.pass T87 T88 s84 (Typed.pass T88 T89 s85
-              (Typed.ask s87 Ψ)))) tt (post (post (post (post (post (Plain.t-call-plain U H A W C 1 ps·7 r·4 (cl .14) (cl .15) "bench_main::after_read" (known .7) E (λ pos β. β) _
+          d17 = pre (Typed.pass T77 T80 s76) (Share.g-back-arr-shrᵖ U H A W E L.u64 _ 6 8 7 (λ x. x) (as-is r49) refl) (pre (λ Ψ. Ψ) (forget 7 Row.dead refl) (pre (λ Ψ. Ψ) (end 8 refl) (pre
+              (Typed.both s79) (Borrow.g-back-arr U H A W E L.u64 _ 28 5 8 8342 y7 (λ x. x) (λ x. x) (as-is r14) (as-is r42) refl) (pre (λ Ψ. Ψ) (forget 8 Row.dead refl) (pre (λ Ψ. Ψ) (begin
+              9 _) (seq (Typed.give s82) (Local.t-sc-borrow U H A W E C _ 5 29 9 (Array'.Array L.u64 8342) y0 (λ x. x) (Whole.mem-arr U H A W L.u64 8342) (gone y0) refl λ b o. tt)
+              (Typed.s-typed U H A W C E _ b30 Δ3 (λ Ψ. Typed.both s83 (Typed.pass T87 T88 s84 (Typed.pass T88 T89 s85 (Typed.ask s87 Ψ)))) tt (post (post (post (post (post
+              (Plain.t-call-plain U H A W C 1 ps·7 r·4 (cl .14) (cl .15) "bench_main::after_read" (known .7) E (λ pos β. β) _
               (record { pos = 29; ty = y0; ref = λ x. x }, (Num.vFld 8 (Y.field 1 ∷ []) 80 λ x. Next.struct .as-values x .1 .0, (record { pos = 10; st = []; d = 0; at = λ x. x }, tt))) 8 (9
               ∷ []) (Call.sub-id U H A W _)
               (as-is (Rows'.mref (Array'.Array L.u64 8342) y0 9), Reads'.reads-mref U H A W (Array'.Array L.u64 8342) y0 9, refl, ((Reads.reads-field U H A W Next.the-type Next′.the-laws 1 (Y.tyInt Y.w64) 80 refl, refl), ((copied (Declared.row ListOutcome.the-type) refl (Copies.cStruct ListOutcome.the-type ListOutcome′.the-laws ListOutcome′.the-copy .copy U H A W), refl), tt)))
@@ -1487,98 +1633,102 @@ module _ (cl : Claims) where
               8342) y0 r50 (λ x. x) (λ x. x) (λ x. x) (as-is r1) (as-is r30) (Whole.arr-mem U H A W L.u64 8342 tt) refl)) (forget 9 Row.dead refl)))))))))
 
           d25 : Typed.Typed U H A C E (lives z14 T71) b31 Δ3 at25
-          d25 = pre (room 26 y5 (Shared.room-sslice U H A W L.u64 y6 7)) (pre (end 5 refl) (pre (Local.g-back-sc U H A W E _ 22 4 5 (Array'.Array L.u64 928) y1 r52 (λ x. x) (λ x. x) (λ x. x)
-              (as-is r4) (as-is r35) (Whole.arr-mem U H A W L.u64 928 tt) refl) (pre (forget 5 Row.dead refl) (pre (end 6 refl) (pre (Borrow.g-back-arr U H A W E S.row _ 24 3 6 256 y9 (λ x.
-              x) (λ x. x) (as-is r17) (as-is r46) refl) (pre (forget 6 Row.dead refl) (pre (end 7 refl) d17)))))))
+          d25 = pre (Typed.pass T71 T72 s68) (room 26 y5 (Shared.room-sslice U H A W L.u64 y6 7)) (pre (λ Ψ. Ψ) (end 5 refl) (pre (Typed.ask s70) (Local.g-back-sc U H A W E _ 22 4 5
+              (Array'.Array L.u64 928) y1 r52 (λ x. x) (λ x. x) (λ x. x) (as-is r4) (as-is r35) (Whole.arr-mem U H A W L.u64 928 tt) refl) (pre (λ Ψ. Ψ) (forget 5 Row.dead refl) (pre (λ Ψ.
+              Ψ) (end 6 refl) (pre (Typed.both s73) (Borrow.g-back-arr U H A W E S.row _ 24 3 6 256 y9 (λ x. x) (λ x. x) (as-is r17) (as-is r46) refl) (pre (λ Ψ. Ψ) (forget 6 Row.dead refl)
+              (pre (λ Ψ. Ψ) (end 7 refl) d17)))))))
 
           d27 : Typed.Typed U H A C E (lives z14 T69) b33 Δ3 at27
-          d27 = seq (Relend.t-sl-aggregate U H A W E L.u64 C (Relend.asMut L.u64) _ 27 28 8 y0 y7 (λ x. x) (Scalar.oBig Y.w64 8342) (as-is (Relend.msptr L.u64 y0 8)) (gone (L.sl y7)) record
-              { lower = record { fits = Dec'.lit< tt } } refl refl λ b o k. tt) (seq (Plain.t-call-plain U H A W C 4 ps·6 r·6 (cl .12) (cl .13) "datasample_access::read_by_keys" (known .6) E
-              (λ pos β. β) _
+          d27 = seq (Typed.ask s66) (Relend.t-sl-aggregate U H A W E L.u64 C (Relend.asMut L.u64) _ 27 28 8 y0 y7 (λ x. x) (Scalar.oBig Y.w64 8342) (as-is (Relend.msptr L.u64 y0 8)) (gone
+              (L.sl y7)) record { lower = record { fits = Dec'.lit< tt } } refl refl λ b o k. tt) (seq (Typed.both s67) (Plain.t-call-plain U H A W C 4 ps·6 r·6 (cl .12) (cl .13)
+              "datasample_access::read_by_keys" (known .6) E (λ pos β. β) _
               (record { pos = 8; st = Y.field 0 ∷ []; d = 0; at = λ x. Next.struct .as-values x .0 }, (record { pos = 22; ty = y1; ref = λ x. x }, (record { pos = 24; ty = y9; ref = λ x. x }, (record { pos = 26; ty = y6; ref = λ x. x }, (record { pos = 28; ty = y7; ref = λ x. x }, tt)))))
               10 (5 ∷ 6 ∷ 7 ∷ 8 ∷ []) (Call.sub-id U H A W _)
               ((Yields'.yields-acc U H A W r34 (Declared.row Cache.the-type) 0 (λ x. Next.struct .as-values x .0) refl (Copies.cStruct Cache.the-type Cache′.the-laws Cache′.the-copy .copy U H A W) (Yields'.acc-record U H A W r34 Cache.the-type 0 (λ x. Next.struct .as-values x .0) (Yields'.acc-part U H A W r34 (Declared.row Next.the-type) (Struct.Struct (Declared.shape Cache.the-type)) 0 0 (λ x. x) (λ y. Cache.the-type .to (Next.struct .as-values y .0)) (Yields'.acc-whole U H A W (Declared.row Next.the-type)) λ y a. Behind.look-at U H A W TreeShare.fullShare Next.the-type Next′.the-laws 0 0 refl refl a y (Next.struct .as-values y) refl)), refl), (as-is r3, Reads'.reads-mref U H A W (Array'.Array L.u64 928) y1 5, refl, (as-is r16, Mut.reads-mslice U H A W S.row y9 6, refl, (ShrSlice.spares-sslice U H A W L.u64 y6 7, Shared.reads-sslice U H A W L.u64 y6 7, refl, (as-is (Mut.mslice L.u64 y7 8), Mut.reads-mslice U H A W L.u64 y7 8, refl, tt)))))
               (gone ListOutcome′.mir) (tt, (tt, (tt, (tt, tt)))) refl) d25)
 
           d28 : Typed.Typed U H A C E (lives z14 T67) b34 Δ3 (at28 bs)
-          d28 = seq (Borrow.t-arr-borrow U H A W E C L.u64 _ 5 27 8342 8 y0 (λ x. x) (as-is r50) (gone y0) refl (λ b o. tt) (Dec'.lit< tt, Dec'.lit< tt)) d27
+          d28 = seq (Typed.give (s65 bs)) (Borrow.t-arr-borrow U H A W E C L.u64 _ 5 27 8342 8 y0 (λ x. x) (as-is r50) (gone y0) refl (λ b o. tt) (Dec'.lit< tt, Dec'.lit< tt)) d27
 
           d29 : Typed.Typed U H A C E (lives z13 T67) b34 Δ3 (at29 bs)
-          d29 = pre (begin 8 _) d28
+          d29 = pre (λ Ψ. Ψ) (begin 8 _) d28
 
           d30 : Typed.Typed U H A C E (lives z13 T66) b35 Δ3 (at30 bs)
-          d30 = seq (Relend.t-sl-aggregate U H A W E L.u64 C (Relend.asShr L.u64) _ 25 26 7 y3 y6 (λ x. x) (Scalar.oAt 9 (Y.tyInt Y.w64) (Row.valS (Row.sInt Y.w64))) (as-is (Relend.ssptr
-              L.u64 y3 7)) (gone y5) (Scalar.reads-sc U H A W (Row.sInt Y.w64), refl) refl refl λ b o k. tt) d29
+          d30 = seq (Typed.ask s63) (Relend.t-sl-aggregate U H A W E L.u64 C (Relend.asShr L.u64) _ 25 26 7 y3 y6 (λ x. x) (Scalar.oAt 9 (Y.tyInt Y.w64) (Row.valS (Row.sInt Y.w64))) (as-is
+              (Relend.ssptr L.u64 y3 7)) (gone y5) (Scalar.reads-sc U H A W (Row.sInt Y.w64), refl) refl refl λ b o k. tt) d29
 
           d31 : Typed.Typed U H A C E (lives z13 T64) b36 Δ3 (at31 bs)
-          d31 = seq (Share.t-arr-shareᵖ U H A W E C L.u64 _ 6 25 8 7 y3 (λ x. x) (λ u. u .1 .1 .1 .1 .1 .1 .1 .1 .1 .0) (as-is r54) (gone y3) refl (λ b o. tt) (Dec'.lit< tt, Dec'.lit< tt))
-              d30
+          d31 = seq (Typed.both s62) (Share.t-arr-shareᵖ U H A W E C L.u64 _ 6 25 8 7 y3 (λ x. x) (λ u. u .1 .1 .1 .1 .1 .1 .1 .1 .1 .0) (as-is r54) (gone y3) refl (λ b o. tt)
+              (Dec'.lit< tt, Dec'.lit< tt)) d30
 
           d32 : Typed.Typed U H A C E (lives z12 T64) b36 Δ3 (at32 bs)
-          d32 = pre (begin 7 _) d31
+          d32 = pre (λ Ψ. Ψ) (begin 7 _) d31
 
           d33 : Typed.Typed U H A C E (lives z12 T63) b37 Δ3 (at33 bs)
-          d33 = seq (Relend.t-sl-aggregate U H A W E S.row C (Relend.asMut S.row) _ 23 24 6 y4 y9 (λ x. x) (Scalar.oInt Y.w64 256) (as-is (Relend.msptr S.row y4 6)) (gone y8) tt refl refl λ
-              b o k. tt) d32
+          d33 = seq (Typed.ask s60) (Relend.t-sl-aggregate U H A W E S.row C (Relend.asMut S.row) _ 23 24 6 y4 y9 (λ x. x) (Scalar.oInt Y.w64 256) (as-is (Relend.msptr S.row y4 6)) (gone y8)
+              tt refl refl λ b o k. tt) d32
 
           d34 : Typed.Typed U H A C E (lives z12 T61) b38 Δ3 (at34 bs)
-          d34 = seq (Borrow.t-arr-borrow U H A W E C S.row _ 3 23 256 6 y4 (λ x. x) (as-is r51) (gone y4) refl (λ b o. tt) (Dec'.lit< tt, Dec'.lit< tt)) d33
+          d34 = seq (Typed.give (s59 bs)) (Borrow.t-arr-borrow U H A W E C S.row _ 3 23 256 6 y4 (λ x. x) (as-is r51) (gone y4) refl (λ b o. tt) (Dec'.lit< tt, Dec'.lit< tt)) d33
 
           d35 : Typed.Typed U H A C E (lives z11 T61) b38 Δ3 (at35 bs)
-          d35 = pre (begin 6 _) d34
+          d35 = pre (λ Ψ. Ψ) (begin 6 _) d34
 
           d36 : Typed.Typed U H A C E (lives z11 T58) b39 Δ3 (at36 bs)
-          d36 = seq (Local.t-sc-borrow U H A W E C _ 4 22 5 (Array'.Array L.u64 928) y1 (λ x. x) (Whole.mem-arr U H A W L.u64 928) (gone y1) refl λ b o. tt) d35
+          d36 = seq (Typed.give s57) (Local.t-sc-borrow U H A W E C _ 4 22 5 (Array'.Array L.u64 928) y1 (λ x. x) (Whole.mem-arr U H A W L.u64 928) (gone y1) refl λ b o. tt) d35
 
           d37 : Typed.Typed U H A C E (lives z0 T58) b39 Δ3 (at37 bs)
-          d37 = pre (begin 5 _) d36
+          d37 = pre (λ Ψ. Ψ) (begin 5 _) d36
 
           d38 : Typed.Typed U H A C E (lives z10 T58) b39 Δ3 (at38 bs)
-          d38 = pre (forget 4 Row.dead refl) d37
+          d38 = pre (λ Ψ. Ψ) (forget 4 Row.dead refl) d37
 
           d39 : Typed.Typed U H A C E (lives z10 T55) b39 Δ3 (at39 bs)
-          d39 = pre (Local.g-back-sc U H A W E _ 21 6 4 (Array'.Array L.u64 8) y2 r54 (λ x. x) (λ x. x) (λ x. x) (as-is r5) (as-is r36) (Whole.arr-mem U H A W L.u64 8 tt) refl) d38
+          d39 = pre (Typed.ask s54) (Local.g-back-sc U H A W E _ 21 6 4 (Array'.Array L.u64 8) y2 r54 (λ x. x) (λ x. x) (λ x. x) (as-is r5) (as-is r36) (Whole.arr-mem U H A W L.u64 8 tt)
+              refl) d38
 
           d40 : Typed.Typed U H A C E (life 3 Row.off G55) b39 Δ3 (at40 bs)
-          d40 = pre (end 4 refl) d39
+          d40 = pre (λ Ψ. Ψ) (end 4 refl) d39
 
           d41 : Typed.Typed U H A C E G55 b39 Δ3 (at41 bs)
-          d41 = pre (forget 3 Row.dead refl) d40
+          d41 = pre (λ Ψ. Ψ) (forget 3 Row.dead refl) d40
 
           d42 : Typed.Typed U H A C E (lives z9 T53) b39 Δ3 (at42 bs)
-          d42 = pre (Local.g-back-sc U H A W E _ 20 5 3 (Array'.Array L.u64 8342) y0 r50 (λ x. x) (λ x. x) (λ x. x) (as-is r1) (as-is r29) (Whole.arr-mem U H A W L.u64 8342 tt) refl) d41
+          d42 = pre (Typed.ask s51) (Local.g-back-sc U H A W E _ 20 5 3 (Array'.Array L.u64 8342) y0 r50 (λ x. x) (λ x. x) (λ x. x) (as-is r1) (as-is r29) (Whole.arr-mem U H A W L.u64 8342
+              tt) refl) d41
 
           d43 : Typed.Typed U H A C E (lives z8 T53) b39 Δ3 (at43 bs)
-          d43 = pre (end 3 refl) d42
+          d43 = pre (λ Ψ. Ψ) (end 3 refl) d42
 
           d44 : Typed.Typed U H A C E (lives z8 T52) b40 Δ3 (at44 bs)
-          d44 = seq (Plain.t-call-plain U H A W C 2 ps·5 r·5 (cl .10) (cl .11) "bench_main::put_list" (known .5) E (λ pos β. β) _
+          d44 = seq (Typed.both s49) (Plain.t-call-plain U H A W C 2 ps·5 r·5 (cl .10) (cl .11) "bench_main::put_list" (known .5) E (λ pos β. β) _
               (record { pos = 20; ty = y0; ref = λ x. x }, (record { pos = 21; ty = y2; ref = λ x. x }, tt)) 9 (3 ∷ 4 ∷ []) (Call.sub-id U H A W _)
               (as-is r0, Reads'.reads-mref U H A W (Array'.Array L.u64 8342) y0 3, refl, (as-is (Rows'.mref (Array'.Array L.u64 8) y2 4), Reads'.reads-mref U H A W (Array'.Array L.u64 8) y2 4, refl, tt))
               (gone (Y.tyInt Y.w64)) (tt, (tt, tt)) refl) d43
 
           d45 : Typed.Typed U H A C E (lives z8 T50) b41 Δ3 (at45 bs)
-          d45 = seq (Local.t-sc-borrow U H A W E C _ 6 21 4 (Array'.Array L.u64 8) y2 (λ x. x) (Whole.mem-arr U H A W L.u64 8) (gone y2) refl λ b o. tt) d44
+          d45 = seq (Typed.give s48) (Local.t-sc-borrow U H A W E C _ 6 21 4 (Array'.Array L.u64 8) y2 (λ x. x) (Whole.mem-arr U H A W L.u64 8) (gone y2) refl λ b o. tt) d44
 
           d46 : Typed.Typed U H A C E (lives z7 T50) b41 Δ3 (at46 bs)
-          d46 = pre (begin 4 _) d45
+          d46 = pre (λ Ψ. Ψ) (begin 4 _) d45
 
           d47 : Typed.Typed U H A C E (lives z7 T35) b42 Δ3 (at47 bs)
-          d47 = seq (Local.t-sc-borrow U H A W E C _ 5 20 3 (Array'.Array L.u64 8342) y0 (λ x. x) (Whole.mem-arr U H A W L.u64 8342) (gone y0) refl λ b o. tt) d46
+          d47 = seq (Typed.give s46) (Local.t-sc-borrow U H A W E C _ 5 20 3 (Array'.Array L.u64 8342) y0 (λ x. x) (Whole.mem-arr U H A W L.u64 8342) (gone y0) refl λ b o. tt) d46
 
           d48 : Typed.Typed U H A C E G36 b42 Δ3 (at48 bs)
-          d48 = pre (begin 3 _) d47
+          d48 = pre (λ Ψ. Ψ) (begin 3 _) d47
 
           d49 : Typed.Typed U H A C E G38 b42 Δ3 (at49 bs)
-          d49 = pre (room 19 Y.tyBool (Scalar.room-sc U H A W Row.sBool)) d48
+          d49 = pre (Typed.pass T38 T35 s36) (room 19 Y.tyBool (Scalar.room-sc U H A W Row.sBool)) d48
 
           d57 : Typed.Typed U H A C E (lives (Row.off ∷ Row.off ∷ Row.off ∷ Row.off ∷ Row.off ∷ Row.off ∷ Row.off ∷ Row.off ∷ Row.off ∷ Row.off ∷ Row.off ∷ Row.dead ∷ Row.alive ∷ Row.off ∷
               []) T107) b52 Δ3 at57
-          d57 = pre (Local.g-back-sc U H A W E _ 31 4 11 (Array'.Array L.u64 928) y1 r52 (λ x. x) (λ x. x) (λ x. x) (as-is r4) (as-is r31) (Whole.arr-mem U H A W L.u64 928 tt) refl) (pre
-              (forget 11 Row.dead refl) (pre (end 12 refl) (pre (Borrow.g-back-arr U H A W E S.row _ 33 3 12 256 y9 (λ x. x) (λ x. x) (as-is r17) (as-is r43) refl) (pre (forget 12 Row.dead
-              refl) (pre (begin 13 _) (seq (Local.t-sc-borrow U H A W E C _ 5 34 13 (Array'.Array L.u64 8342) y0 (λ x. x) (Whole.mem-arr U H A W L.u64 8342) (gone y0) refl λ b o. tt)
-              (Typed.s-typed U H A W C E _ b51 Δ3 (λ Ψ. Typed.both s112 (Typed.pass T116 T117 s113 (Typed.pass T117 T118 s114 (Typed.ask s116 Ψ)))) tt (post (post (post (post (post
-              (Plain.t-call-plain U H A W C 1 ps·10 r·4 (cl .20) (cl .21) "bench_main::after_add" (known .10) E (λ pos β. β) _
+          d57 = pre (Typed.ask s105) (Local.g-back-sc U H A W E _ 31 4 11 (Array'.Array L.u64 928) y1 r52 (λ x. x) (λ x. x) (λ x. x) (as-is r4) (as-is r31) (Whole.arr-mem U H A W L.u64 928
+              tt) refl) (pre (λ Ψ. Ψ) (forget 11 Row.dead refl) (pre (λ Ψ. Ψ) (end 12 refl) (pre (Typed.both s108) (Borrow.g-back-arr U H A W E S.row _ 33 3 12 256 y9 (λ x. x) (λ x. x)
+              (as-is r17) (as-is r43) refl) (pre (λ Ψ. Ψ) (forget 12 Row.dead refl) (pre (λ Ψ. Ψ) (begin 13 _) (seq (Typed.give s111) (Local.t-sc-borrow U H A W E C _ 5 34 13 (Array'.Array
+              L.u64 8342) y0 (λ x. x) (Whole.mem-arr U H A W L.u64 8342) (gone y0) refl λ b o. tt) (Typed.s-typed U H A W C E _ b51 Δ3 (λ Ψ. Typed.both s112 (Typed.pass T116 T117 s113
+              (Typed.pass T117 T118 s114 (Typed.ask s116 Ψ)))) tt (post (post (post (post (post (Plain.t-call-plain U H A W C 1 ps·10 r·4 (cl .20) (cl .21) "bench_main::after_add" (known
+              .10) E (λ pos β. β) _
               (record { pos = 34; ty = y0; ref = λ x. x }, (Num.vFld 8 (Y.field 1 ∷ []) 80 λ x. Next.struct .as-values x .1 .0, (Num.vFld 11 (Y.field 0 ∷ []) 0 λ x. Arrival.struct .as-values x .0, (record { pos = 13; st = []; d = 0; at = λ x. x }, tt))))
               8 (13 ∷ []) (Call.sub-id U H A W _)
               (as-is (Rows'.mref (Array'.Array L.u64 8342) y0 13), Reads'.reads-mref U H A W (Array'.Array L.u64 8342) y0 13, refl, ((Reads.reads-field U H A W Next.the-type Next′.the-laws 1 (Y.tyInt Y.w64) 80 refl, refl), ((Reads.reads-field U H A W Arrival.the-type Arrival′.the-laws 0 (Y.tyInt Y.w64) 0 refl, refl), ((copied (Declared.row AddOutcome.the-type) refl (Copies.cStruct AddOutcome.the-type AddOutcome′.the-laws AddOutcome′.the-copy .copy U H A W), refl), tt))))
@@ -1587,85 +1737,86 @@ module _ (cl : Claims) where
               34 5 13 (Array'.Array L.u64 8342) y0 r50 (λ x. x) (λ x. x) (λ x. x) (as-is r1) (as-is r26) (Whole.arr-mem U H A W L.u64 8342 tt) refl)) (forget 13 Row.dead refl)))))))))
 
           d59 : Typed.Typed U H A C E (lives z24 T106) b52 Δ3 at59
-          d59 = pre (room 12 y13 (Init.room-arr U H A W L.u8 16 0 16 refl)) (pre (end 11 refl) d57)
+          d59 = pre (Typed.pass T106 T107 s103) (room 12 y13 (Init.room-arr U H A W L.u8 16 0 16 refl)) (pre (λ Ψ. Ψ) (end 11 refl) d57)
 
           d61 : Typed.Typed U H A C E (lives z24 T104) b54 Δ3 at61
-          d61 = seq (Relend.t-sl-aggregate U H A W E S.row C (Relend.asMut S.row) _ 32 33 12 y4 y9 (λ x. x) (Scalar.oInt Y.w64 256) (as-is (Relend.msptr S.row y4 12)) (gone y8) tt refl refl
-              λ b o k. tt) (seq (Plain.t-call-plain U H A W C 2 ps·9 r·9 (cl .18) (cl .19) "datasample_cache::add" (known .9) E (λ pos β. β) _
+          d61 = seq (Typed.ask s101) (Relend.t-sl-aggregate U H A W E S.row C (Relend.asMut S.row) _ 32 33 12 y4 y9 (λ x. x) (Scalar.oInt Y.w64 256) (as-is (Relend.msptr S.row y4 12)) (gone
+              y8) tt refl refl λ b o k. tt) (seq (Typed.both s102) (Plain.t-call-plain U H A W C 2 ps·9 r·9 (cl .18) (cl .19) "datasample_cache::add" (known .9) E (λ pos β. β) _
               (record { pos = 8; st = Y.field 0 ∷ []; d = 0; at = λ x. Next.struct .as-values x .0 }, (record { pos = 31; ty = y1; ref = λ x. x }, (record { pos = 33; ty = y9; ref = λ x. x }, (Num.vFld 11 (Y.field 1 ∷ []) 8 λ x. Arrival.struct .as-values x .1 .0, (record { pos = 12; st = []; d = 0; at = λ x. x }, (Num.vFld 11 (Y.field 3 ∷ []) 32 λ x. Arrival.struct .as-values x .1 .1 .1 .0, (Num.vFld 11 (Y.field 4 ∷ []) 40 λ x. Arrival.struct .as-values x .1 .1 .1 .1 .0, (Num.vFld 11 (Y.field 5 ∷ []) 48 λ x. Arrival.struct .as-values x .1 .1 .1 .1 .1 .0, (Num.vFld 11 (Y.field 6 ∷ []) 52 λ x. Arrival.struct .as-values x .1 .1 .1 .1 .1 .1 .0, tt)))))))))
               13 (11 ∷ 12 ∷ []) (Call.sub-id U H A W _)
               ((Yields'.yields-acc U H A W r34 (Declared.row Cache.the-type) 0 (λ x. Next.struct .as-values x .0) refl (Copies.cStruct Cache.the-type Cache′.the-laws Cache′.the-copy .copy U H A W) (Yields'.acc-record U H A W r34 Cache.the-type 0 (λ x. Next.struct .as-values x .0) (Yields'.acc-part U H A W r34 (Declared.row Next.the-type) (Struct.Struct (Declared.shape Cache.the-type)) 0 0 (λ x. x) (λ y. Cache.the-type .to (Next.struct .as-values y .0)) (Yields'.acc-whole U H A W (Declared.row Next.the-type)) λ y a. Behind.look-at U H A W TreeShare.fullShare Next.the-type Next′.the-laws 0 0 refl refl a y (Next.struct .as-values y) refl)), refl), (as-is (Rows'.mref (Array'.Array L.u64 928) y1 11), Reads'.reads-mref U H A W (Array'.Array L.u64 928) y1 11, refl, (as-is (Mut.mslice S.row y9 12), Mut.reads-mslice U H A W S.row y9 12, refl, ((Reads.reads-field U H A W Arrival.the-type Arrival′.the-laws 1 (Y.tyInt Y.w64) 8 refl, refl), ((Array.arr-yields U H A W (Array.eInt Y.w8) (Array.eInt-laws Y.w8) 16, refl), ((Reads.reads-field U H A W Arrival.the-type Arrival′.the-laws 3 (Y.tyInt Y.w64) 32 refl, refl), ((Reads.reads-field U H A W Arrival.the-type Arrival′.the-laws 4 (Y.tyInt Y.w64) 40 refl, refl), ((Reads.reads-field U H A W Arrival.the-type Arrival′.the-laws 5 (Y.tyInt Y.w8) 48 refl, refl), ((Reads.reads-field U H A W Arrival.the-type Arrival′.the-laws 6 (Y.tyInt Y.w32) 52 refl, refl), tt)))))))))
               (gone AddOutcome′.mir) (tt, (tt, tt)) refl) d59)
 
           d62 : Typed.Typed U H A C E (lives z24 T102) b55 Δ3 (at62 bs)
-          d62 = seq (Borrow.t-arr-borrow U H A W E C S.row _ 3 32 256 12 y4 (λ x. x) (as-is r51) (gone y4) refl (λ b o. tt) (Dec'.lit< tt, Dec'.lit< tt)) d61
+          d62 = seq (Typed.give (s100 bs)) (Borrow.t-arr-borrow U H A W E C S.row _ 3 32 256 12 y4 (λ x. x) (as-is r51) (gone y4) refl (λ b o. tt) (Dec'.lit< tt, Dec'.lit< tt)) d61
 
           d63 : Typed.Typed U H A C E (lives z23 T102) b55 Δ3 (at63 bs)
-          d63 = pre (begin 12 _) d62
+          d63 = pre (λ Ψ. Ψ) (begin 12 _) d62
 
           d64 : Typed.Typed U H A C E (lives z23 T100) b56 Δ3 (at64 bs)
-          d64 = seq (Local.t-sc-borrow U H A W E C _ 4 31 11 (Array'.Array L.u64 928) y1 (λ x. x) (Whole.mem-arr U H A W L.u64 928) (gone y1) refl λ b o. tt) d63
+          d64 = seq (Typed.give s98) (Local.t-sc-borrow U H A W E C _ 4 31 11 (Array'.Array L.u64 928) y1 (λ x. x) (Whole.mem-arr U H A W L.u64 928) (gone y1) refl λ b o. tt) d63
 
           d65 : Typed.Typed U H A C E (lives z0 T100) b56 Δ3 (at65 bs)
-          d65 = pre (begin 11 _) d64
+          d65 = pre (λ Ψ. Ψ) (begin 11 _) d64
 
           d66 : Typed.Typed U H A C E G99 b57 Δ3 (at66 bs)
-          d66 = seq (WayStmt.t-way-copy-out U H A W E C (Array'.Array L.u8 16) refl (Copies.cArr L.u8 (Copies.cRf (Referent.fInt Y.w8)) 16 .copy U H A W) (λ ρ. Unit) _ (Row.out 11 (G99
-              .locals)) (λ u. Row.drop 11 (G99 .locals) u) (G99 .slots) 11 (λ t. Y.field 2 ∷ t) y13 y13 12 r55 (λ x. x) (λ u. At.getAt (Arrival.the-type .parts) 2 (Arrival.struct .as-values
-              (u .1 .1 .1 .1 .1 .1 .1 .1 .1 .1 .1 .0))) (λ u. (Row.rd 0 11 bs, Nat._+_ 0 16)) (λ T′. record { locals = Row.setRow 11 (11, r25) T′; slots = G99 .slots }) (λ u T′ m′. Row.set
-              11 (11, r25) (u .1 .1 .1 .1 .1 .1 .1 .1 .1 .1 .1 .0) T′ m′) (λ u. Unit) (λ x. Unit) (Own.told-none U H A (G99 .slots)) (DerefMove.learns-nothing U H A (Array'.Array L.u8 16))
-              (λ ρ told u asked. Way'.w-partˢ U H A W E (Declared.row Arrival.the-type) (Array'.Array L.u8 16) Arrival′.mir y13 2 16 (u .1 .1 .1 .1 .1 .1 .1 .1 .1 .1 .1 .0) (At.getAt
-              (Arrival.the-type .parts) 2 (Arrival.struct .as-values (u .1 .1 .1 .1 .1 .1 .1 .1 .1 .1 .1 .0))) (Row.rd 0 11 bs, 0) (Way.w-look U H A W E (Way.w-local U H A W E _ ρ u (G99
-              .slots) 11 (Declared.row Arrival.the-type) r25 (λ x. x) (λ x. x) (u .1 .1 .1 .1 .1 .1 .1 .1 .1 .1 .1 .0) (Local.mem-whole U H A W (Declared.row Arrival.the-type) ρ (u .1 .1 .1
-              .1 .1 .1 .1 .1 .1 .1 .1 .0) (Row.rd 0 11 bs)) (Local.whole-mem U H A W (Declared.row Arrival.the-type) ρ (u .1 .1 .1 .1 .1 .1 .1 .1 .1 .1 .1 .0) (Row.rd 0 11 bs)))) refl λ q.
-              Items.cut-array U H A q (Declared.row Arrival.the-type) L.u8 16 16 (u .1 .1 .1 .1 .1 .1 .1 .1 .1 .1 .1 .0) (u .1 .1 .1 .1 .1 .1 .1 .1 .1 .1 .1 .0) (At.getAt (Arrival.the-type
-              .parts) 2 (Arrival.struct .as-values (u .1 .1 .1 .1 .1 .1 .1 .1 .1 .1 .1 .0))) (At.getAt (Arrival.the-type .parts) 2 (Arrival.struct .as-values (u .1 .1 .1 .1 .1 .1 .1 .1 .1 .1
-              .1 .0))) (Row.rd 0 11 bs, 0) (Behind.look-at U H A W q Arrival.the-type Arrival′.the-laws 2 16 refl refl (Row.rd 0 11 bs, 0) (u .1 .1 .1 .1 .1 .1 .1 .1 .1 .1 .1 .0)
-              (Arrival.struct .as-values (u .1 .1 .1 .1 .1 .1 .1 .1 .1 .1 .1 .0)) refl)) (gone y13) (Yields.makes-mem U H A W (λ ρ. Unit) (Array'.Array L.u8 16) refl r55 (λ x. x) λ ρ told.
-              Whole.arr-mem U H A W L.u8 16 tt ρ) refl refl refl) d65
+          d66 = seq (Typed.both s96) (WayStmt.t-way-copy-out U H A W E C (Array'.Array L.u8 16) refl (Copies.cArr L.u8 (Copies.cRf (Referent.fInt Y.w8)) 16 .copy U H A W) (λ ρ. Unit) _
+              (Row.out 11 (G99 .locals)) (λ u. Row.drop 11 (G99 .locals) u) (G99 .slots) 11 (λ t. Y.field 2 ∷ t) y13 y13 12 r55 (λ x. x) (λ u. At.getAt (Arrival.the-type .parts) 2
+              (Arrival.struct .as-values (u .1 .1 .1 .1 .1 .1 .1 .1 .1 .1 .1 .0))) (λ u. (Row.rd 0 11 bs, Nat._+_ 0 16)) (λ T′. record
+              { locals = Row.setRow 11 (11, r25) T′; slots = G99 .slots }) (λ u T′ m′. Row.set 11 (11, r25) (u .1 .1 .1 .1 .1 .1 .1 .1 .1 .1 .1 .0) T′ m′) (λ u. Unit) (λ x. Unit)
+              (Own.told-none U H A (G99 .slots)) (DerefMove.learns-nothing U H A (Array'.Array L.u8 16)) (λ ρ told u asked. Way'.w-partˢ U H A W E (Declared.row Arrival.the-type)
+              (Array'.Array L.u8 16) Arrival′.mir y13 2 16 (u .1 .1 .1 .1 .1 .1 .1 .1 .1 .1 .1 .0) (At.getAt (Arrival.the-type .parts) 2 (Arrival.struct .as-values (u .1 .1 .1 .1 .1 .1 .1 .1
+              .1 .1 .1 .0))) (Row.rd 0 11 bs, 0) (Way.w-look U H A W E (Way.w-local U H A W E _ ρ u (G99 .slots) 11 (Declared.row Arrival.the-type) r25 (λ x. x) (λ x. x) (u .1 .1 .1 .1 .1 .1
+              .1 .1 .1 .1 .1 .0) (Local.mem-whole U H A W (Declared.row Arrival.the-type) ρ (u .1 .1 .1 .1 .1 .1 .1 .1 .1 .1 .1 .0) (Row.rd 0 11 bs)) (Local.whole-mem U H A W (Declared.row
+              Arrival.the-type) ρ (u .1 .1 .1 .1 .1 .1 .1 .1 .1 .1 .1 .0) (Row.rd 0 11 bs)))) refl λ q. Items.cut-array U H A q (Declared.row Arrival.the-type) L.u8 16 16 (u .1 .1 .1 .1 .1
+              .1 .1 .1 .1 .1 .1 .0) (u .1 .1 .1 .1 .1 .1 .1 .1 .1 .1 .1 .0) (At.getAt (Arrival.the-type .parts) 2 (Arrival.struct .as-values (u .1 .1 .1 .1 .1 .1 .1 .1 .1 .1 .1 .0)))
+              (At.getAt (Arrival.the-type .parts) 2 (Arrival.struct .as-values (u .1 .1 .1 .1 .1 .1 .1 .1 .1 .1 .1 .0))) (Row.rd 0 11 bs, 0) (Behind.look-at U H A W q Arrival.the-type
+              Arrival′.the-laws 2 16 refl refl (Row.rd 0 11 bs, 0) (u .1 .1 .1 .1 .1 .1 .1 .1 .1 .1 .1 .0) (Arrival.struct .as-values (u .1 .1 .1 .1 .1 .1 .1 .1 .1 .1 .1 .0)) refl)) (gone
+              y13) (Yields.makes-mem U H A W (λ ρ. Unit) (Array'.Array L.u8 16) refl r55 (λ x. x) λ ρ told. Whole.arr-mem U H A W L.u8 16 tt ρ) refl refl refl) d65
 
           d67 : Typed.Typed U H A C E (lives z22 T98) b57 Δ3 (at67 bs)
-          d67 = pre (forget 10 Row.dead refl) d66
+          d67 = pre (λ Ψ. Ψ) (forget 10 Row.dead refl) d66
 
           d68 : Typed.Typed U H A C E (lives z22 T96) b57 Δ3 (at68 bs)
-          d68 = pre (Local.g-back-sc U H A W E _ 30 5 10 (Array'.Array L.u64 8342) y0 r50 (λ x. x) (λ x. x) (λ x. x) (as-is r1) (as-is (Rows'.sc-owed (Array'.Array L.u64 8342) 10))
-              (Whole.arr-mem U H A W L.u64 8342 tt) refl) d67
+          d68 = pre (Typed.ask s94) (Local.g-back-sc U H A W E _ 30 5 10 (Array'.Array L.u64 8342) y0 r50 (λ x. x) (λ x. x) (λ x. x) (as-is r1) (as-is (Rows'.sc-owed (Array'.Array L.u64
+              8342) 10)) (Whole.arr-mem U H A W L.u64 8342 tt) refl) d67
 
           d69 : Typed.Typed U H A C E (lives z21 T96) b57 Δ3 (at69 bs)
-          d69 = pre (end 10 refl) d68
+          d69 = pre (λ Ψ. Ψ) (end 10 refl) d68
 
           d70 : Typed.Typed U H A C E (lives z21 T95) b58 Δ3 (at70 bs)
-          d70 = seq (Plain.t-call-plain U H A W C 1 ps·8 r·8 (cl .16) (cl .17) "bench_main::next_arrival" (known .8) E (λ pos β. β) _
+          d70 = seq (Typed.both s92) (Plain.t-call-plain U H A W C 1 ps·8 r·8 (cl .16) (cl .17) "bench_main::next_arrival" (known .8) E (λ pos β. β) _
               (record { pos = 30; ty = y0; ref = λ x. x }, (Num.vFld 8 (Y.field 1 ∷ []) 80 λ x. Next.struct .as-values x .1 .0, tt)) 11 (10 ∷ []) (Call.sub-id U H A W _)
               (as-is (Rows'.mref (Array'.Array L.u64 8342) y0 10), Reads'.reads-mref U H A W (Array'.Array L.u64 8342) y0 10, refl, ((Reads.reads-field U H A W Next.the-type Next′.the-laws 1 (Y.tyInt Y.w64) 80 refl, refl), tt))
               (gone Arrival′.mir) (tt, tt) refl) d69
 
           d71 : Typed.Typed U H A C E (lives z21 T35) b59 Δ3 (at71 bs)
-          d71 = seq (Local.t-sc-borrow U H A W E C _ 5 30 10 (Array'.Array L.u64 8342) y0 (λ x. x) (Whole.mem-arr U H A W L.u64 8342) (gone y0) refl λ b o. tt) d70
+          d71 = seq (Typed.give s91) (Local.t-sc-borrow U H A W E C _ 5 30 10 (Array'.Array L.u64 8342) y0 (λ x. x) (Whole.mem-arr U H A W L.u64 8342) (gone y0) refl λ b o. tt) d70
 
           d72 : Typed.Typed U H A C E G36 b59 Δ3 (at72 bs)
-          d72 = pre (begin 10 _) d71
+          d72 = pre (λ Ψ. Ψ) (begin 10 _) d71
 
           d73 : Typed.Typed U H A C E G38 b59 Δ3 (at73 bs)
-          d73 = pre (room 19 Y.tyBool (Scalar.room-sc U H A W Row.sBool)) d72
+          d73 = pre (Typed.pass T38 T35 s36) (room 19 Y.tyBool (Scalar.room-sc U H A W Row.sBool)) d72
 
           d74 : Typed.Typed U H A C E G38 b60 Δ3 (at74 bs)
           d74 = Scalar.t-cond U H A W E C _ 19 (λ x. x) b42 b59 Δ3 (at49 bs) (at73 bs) (Scalar.reads-sc U H A W Row.sBool) refl d49 d73
 
           d75 : Typed.Typed U H A C E G36 b61 Δ3 (at75 bs)
-          d75 = seq (Scalar.t-use U H A W E C _ (Scalar.oFld 8 (Y.field 2 ∷ []) Y.tyBool 88 (Reads.fieldV Next.the-type Next′.the-laws 2)) 19 L.hbool Y.tyBool (Row.valS Row.sBool) (Row.sBool
-              .of) (Reads.reads-field U H A W Next.the-type Next′.the-laws 2 Y.tyBool 88 refl, refl) (gone Y.tyBool) (Scalar.holds-sc U H A W Row.sBool) refl (λ u. refl) λ u. tt) d74
+          d75 = seq (Typed.pass T35 T38 s43) (Scalar.t-use U H A W E C _ (Scalar.oFld 8 (Y.field 2 ∷ []) Y.tyBool 88 (Reads.fieldV Next.the-type Next′.the-laws 2)) 19 L.hbool Y.tyBool
+              (Row.valS Row.sBool) (Row.sBool .of) (Reads.reads-field U H A W Next.the-type Next′.the-laws 2 Y.tyBool 88 refl, refl) (gone Y.tyBool) (Scalar.holds-sc U H A W Row.sBool) refl
+              (λ u. refl) λ u. tt) d74
 
           d76 : Typed.Typed U H A C E G38 b62 Δ3 (at76 bs)
           d76 = Typed.t-seq U H A W C E _ _ b16 b61 Δ3 at9 (at75 bs) d9 d75
 
           d77 : Typed.Typed U H A C E G36 b63 Δ3 (at77 bs)
-          d77 = seq (Scalar.t-op2 U H A W E C _ (Y.lt Y.unsigned) (Scalar.oInt Y.w64 0) (Scalar.oFld 8 (Y.field 1 ∷ []) (Y.tyInt Y.w64) 80 (Reads.fieldV Next.the-type Next′.the-laws 1)) 19
-              L.hbool Y.tyBool (Row.valS Row.sBool) (Row.sBool .of) tt (Reads.reads-field U H A W Next.the-type Next′.the-laws 1 (Y.tyInt Y.w64) 80 refl, refl) (gone Y.tyBool)
-              (Scalar.holds-sc U H A W Row.sBool) refl (λ u. refl) λ u. tt) d76
+          d77 = seq (Typed.ask s35) (Scalar.t-op2 U H A W E C _ (Y.lt Y.unsigned) (Scalar.oInt Y.w64 0) (Scalar.oFld 8 (Y.field 1 ∷ []) (Y.tyInt Y.w64) 80 (Reads.fieldV Next.the-type
+              Next′.the-laws 1)) 19 L.hbool Y.tyBool (Row.valS Row.sBool) (Row.sBool .of) tt (Reads.reads-field U H A W Next.the-type Next′.the-laws 1 (Y.tyInt Y.w64) 80 refl, refl) (gone
+              Y.tyBool) (Scalar.holds-sc U H A W Row.sBool) refl (λ u. refl) λ u. tt) d76
 
           d78 : Typed.Typed U H A C E G36 b63 Δ3 (at78 bs)
-          d78 = pre (Know.g-struct-known U H A W E Next.the-type Next′.the-laws _ 8 (λ x. x) (as-is r34)) d77
+          d78 = pre (Typed.give s34) (Know.g-struct-known U H A W E Next.the-type Next′.the-laws _ 8 (λ x. x) (as-is r34)) d77
 
           d79 : Typed.Typed U H A C E G36 b64 Δ2 (at79 bs)
           d79 = Typed.t-loop-by U H A W C E _ b63 Δ2 put0 (λ u vs. Inv·0 (Row.get 3 (T35 .locals) u) (Row.get 4 (T35 .locals) u) (Row.get 5 (T35 .locals) u) (Row.get 6 (T35 .locals) u)
@@ -1676,130 +1827,133 @@ module _ (cl : Claims) where
           d80 = Typed.t-block U H A W C E _ b64 Δ1 (at79 bs) d79
 
           d81 : Typed.Typed U H A C E (lives z6 T35) b65 Δ1 (at81 bs)
-          d81 = pre (forget 2 Row.dead refl) d80
+          d81 = pre (λ Ψ. Ψ) (forget 2 Row.dead refl) d80
 
           d82 : Typed.Typed U H A C E (lives z6 T33) b65 Δ1 (at82 bs)
-          d82 = pre (Local.g-back-sc U H A W E _ 18 5 2 (Array'.Array L.u64 8342) y0 r50 (λ x. x) (λ x. x) (λ x. x) (as-is r1) (as-is r28) (Whole.arr-mem U H A W L.u64 8342 tt) refl) d81
+          d82 = pre (Typed.ask s32) (Local.g-back-sc U H A W E _ 18 5 2 (Array'.Array L.u64 8342) y0 r50 (λ x. x) (λ x. x) (λ x. x) (as-is r1) (as-is r28) (Whole.arr-mem U H A W L.u64 8342
+              tt) refl) d81
 
           d83 : Typed.Typed U H A C E (lives z5 T33) b65 Δ1 (at83 bs)
-          d83 = pre (end 2 refl) d82
+          d83 = pre (λ Ψ. Ψ) (end 2 refl) d82
 
           d84 : Typed.Typed U H A C E (lives z5 T32) b65 Δ1 (at84 bs)
-          d84 = pre (room 7 SetUpOutcome′.mir (Local.room-whole U H A W (Declared.row SetUpOutcome.the-type) SetUpOutcome′.mir refl)) d83
+          d84 = pre (Typed.pass T32 T33 s30) (room 7 SetUpOutcome′.mir (Local.room-whole U H A W (Declared.row SetUpOutcome.the-type) SetUpOutcome′.mir refl)) d83
 
           d85 : Typed.Typed U H A C E G30 b65 Δ1 (at85 bs)
-          d85 = pre (room 1 Load′.mir (Local.room-whole U H A W (Declared.row Load.the-type) Load′.mir refl)) d84
+          d85 = pre (Typed.pass T30 T32 s29) (room 1 Load′.mir (Local.room-whole U H A W (Declared.row Load.the-type) Load′.mir refl)) d84
 
           d87 : Typed.Typed U H A C E G0 b68 Δ0 at87
-          d87 = seq (Scalar.t-use U H A W E C _ Scalar.oUnit 0 L.hunit Y.tyUnit (Row.valS Row.sUnit) (Row.sUnit .of) tt (gone Y.tyUnit) (Scalar.holds-sc U H A W Row.sUnit) refl (λ u. refl) λ
-              u. tt) (Typed.t-return U H A W C E Δ0 tt)
+          d87 = seq (Typed.pass T0 T1 s118) (Scalar.t-use U H A W E C _ Scalar.oUnit 0 L.hunit Y.tyUnit (Row.valS Row.sUnit) (Row.sUnit .of) tt (gone Y.tyUnit) (Scalar.holds-sc U H A W
+              Row.sUnit) refl (λ u. refl) λ u. tt) (Typed.t-return U H A W C E Δ0 tt)
 
           d88 : Typed.Typed U H A C E G30 b69 Δ0 (at88 bs)
           d88 = Typed.t-seq U H A W C E _ _ b65 b68 Δ0 (at85 bs) at87 d85 d87
 
           d89 : Typed.Typed U H A C E (lives z5 T29) b70 Δ0 (at89 bs)
-          d89 = seq (Plain.t-call-plain U H A W C 1 ps·4 r·4 (cl .8) (cl .9) "bench_main::begin" (known .4) E (λ pos β. β) _
+          d89 = seq (Typed.both s28) (Plain.t-call-plain U H A W C 1 ps·4 r·4 (cl .8) (cl .9) "bench_main::begin" (known .4) E (λ pos β. β) _
               (record { pos = 18; ty = y0; ref = λ x. x }, (record { pos = 1; st = []; d = 0; at = λ x. x }, (record { pos = 7; st = []; d = 0; at = λ x. x }, tt))) 8 (2 ∷ []) (Call.sub-id U
               H A W _)
               (as-is (Rows'.mref (Array'.Array L.u64 8342) y0 2), Reads'.reads-mref U H A W (Array'.Array L.u64 8342) y0 2, refl, ((copied (Declared.row Load.the-type) refl (Copies.cStruct Load.the-type Load′.the-laws Load′.the-copy .copy U H A W), refl), ((copied (Declared.row SetUpOutcome.the-type) refl (Copies.cStruct SetUpOutcome.the-type SetUpOutcome′.the-laws SetUpOutcome′.the-copy .copy U H A W), refl), tt)))
               (gone Next′.mir) (tt, tt) refl) d88
 
           d90 : Typed.Typed U H A C E (lives z5 T26) b71 Δ0 (at90 bs)
-          d90 = seq (Local.t-sc-borrow U H A W E C _ 5 18 2 (Array'.Array L.u64 8342) y0 (λ x. x) (Whole.mem-arr U H A W L.u64 8342) (gone y0) refl λ b o. tt) d89
+          d90 = seq (Typed.give s27) (Local.t-sc-borrow U H A W E C _ 5 18 2 (Array'.Array L.u64 8342) y0 (λ x. x) (Whole.mem-arr U H A W L.u64 8342) (gone y0) refl λ b o. tt) d89
 
           d91 : Typed.Typed U H A C E (lives z0 T26) b71 Δ0 (at91 bs)
-          d91 = pre (begin 2 _) d90
+          d91 = pre (λ Ψ. Ψ) (begin 2 _) d90
 
           d92 : Typed.Typed U H A C E (lives z4 T26) b71 Δ0 (at92 bs)
-          d92 = pre (forget 1 Row.dead refl) d91
+          d92 = pre (λ Ψ. Ψ) (forget 1 Row.dead refl) d91
 
           d93 : Typed.Typed U H A C E (lives z4 T23) b71 Δ0 (at93 bs)
-          d93 = pre (Borrow.g-back-arr U H A W E S.row _ 17 3 1 256 y9 (λ x. x) (λ x. x) (as-is r17) (as-is r45) refl) d92
+          d93 = pre (Typed.both s24) (Borrow.g-back-arr U H A W E S.row _ 17 3 1 256 y9 (λ x. x) (λ x. x) (as-is r17) (as-is r45) refl) d92
 
           d94 : Typed.Typed U H A C E (life 0 Row.off G23) b71 Δ0 (at94 bs)
-          d94 = pre (end 1 refl) d93
+          d94 = pre (λ Ψ. Ψ) (end 1 refl) d93
 
           d95 : Typed.Typed U H A C E G23 b71 Δ0 (at95 bs)
-          d95 = pre (forget 0 Row.dead refl) d94
+          d95 = pre (λ Ψ. Ψ) (forget 0 Row.dead refl) d94
 
           d96 : Typed.Typed U H A C E (lives z3 T21) b71 Δ0 (at96 bs)
-          d96 = pre (Local.g-back-sc U H A W E _ 15 4 0 (Array'.Array L.u64 928) y1 r52 (λ x. x) (λ x. x) (λ x. x) (as-is r4) (as-is r33) (Whole.arr-mem U H A W L.u64 928 tt) refl) d95
+          d96 = pre (Typed.ask s21) (Local.g-back-sc U H A W E _ 15 4 0 (Array'.Array L.u64 928) y1 r52 (λ x. x) (λ x. x) (λ x. x) (as-is r4) (as-is r33) (Whole.arr-mem U H A W L.u64 928 tt)
+              refl) d95
 
           d97 : Typed.Typed U H A C E (lives z2 T21) b71 Δ0 (at97 bs)
-          d97 = pre (end 0 refl) d96
+          d97 = pre (λ Ψ. Ψ) (end 0 refl) d96
 
           d98 : Typed.Typed U H A C E (lives z2 T20) b71 Δ0 (at98 bs)
-          d98 = pre (room 14 Cache′.mir (Local.room-whole U H A W (Declared.row Cache.the-type) Cache′.mir refl)) d97
+          d98 = pre (Typed.pass T20 T21 s19) (room 14 Cache′.mir (Local.room-whole U H A W (Declared.row Cache.the-type) Cache′.mir refl)) d97
 
           d99 : Typed.Typed U H A C E G18 b72 Δ0 (at99 bs)
-          d99 = seq (Plain.t-call-plain U H A W C 2 ps·3 r·3 (cl .6) (cl .7) "datasample_cache::set_up" (known .3) E (λ pos β. β) _
+          d99 = seq (Typed.both s18) (Plain.t-call-plain U H A W C 2 ps·3 r·3 (cl .6) (cl .7) "datasample_cache::set_up" (known .3) E (λ pos β. β) _
               (record { pos = 14; st = []; d = 0; at = λ x. x }, (record { pos = 15; ty = y1; ref = λ x. x }, (record { pos = 17; ty = y9; ref = λ x. x }, (Num.vFld 1 (Y.field 0 ∷ []) 0 λ x. Load.struct .as-values x .0, (Num.vFld 1 (Y.field 1 ∷ []) 4 λ x. Val.ofZ Y.w32 (Load.struct .as-values x .1 .0), (Num.vFld 1 (Y.field 3 ∷ []) 12 λ x. Load.struct .as-values x .1 .1 .1 .0, tt))))))
               7 (0 ∷ 1 ∷ []) (Call.sub-id U H A W _)
               ((copied (Declared.row Cache.the-type) refl (Copies.cStruct Cache.the-type Cache′.the-laws Cache′.the-copy .copy U H A W), refl), (as-is r2, Reads'.reads-mref U H A W (Array'.Array L.u64 928) y1 0, refl, (as-is (Mut.mslice S.row y9 1), Mut.reads-mslice U H A W S.row y9 1, refl, ((Reads.reads-field U H A W Load.the-type Load′.the-laws 0 (Y.tyInt Y.w8) 0 refl, refl), ((Reads.reads-field U H A W Load.the-type Load′.the-laws 1 (Y.tyInt Y.w32) 4 refl, refl), ((Reads.reads-field U H A W Load.the-type Load′.the-laws 3 (Y.tyInt Y.w16) 12 refl, refl), tt))))))
               (gone SetUpOutcome′.mir) (tt, (tt, tt)) refl) d98
 
           d100 : Typed.Typed U H A C E G18 b72 Δ0 (at100 bs)
-          d100 = pre (Signed.g-struct-told U H A W E Load.the-type Load′.the-laws _ 1 (λ x. x) (as-is r32)) d99
+          d100 = pre (Typed.give s17) (Signed.g-struct-told U H A W E Load.the-type Load′.the-laws _ 1 (λ x. x) (as-is r32)) d99
 
           d101 : Typed.Typed U H A C E (lives z2 T17) b73 Δ0 (at101 bs)
-          d101 = seq (Relend.t-sl-aggregate U H A W E S.row C (Relend.asMut S.row) _ 16 17 1 y4 y9 (λ x. x) (Scalar.oInt Y.w64 256) (as-is (Relend.msptr S.row y4 1)) (gone y8) tt refl refl λ
-              b o k. tt) d100
+          d101 = seq (Typed.ask s16) (Relend.t-sl-aggregate U H A W E S.row C (Relend.asMut S.row) _ 16 17 1 y4 y9 (λ x. x) (Scalar.oInt Y.w64 256) (as-is (Relend.msptr S.row y4 1)) (gone
+              y8) tt refl refl λ b o k. tt) d100
 
           d102 : Typed.Typed U H A C E (lives z2 T15) b74 Δ0 (at102 bs)
-          d102 = seq (Borrow.t-arr-borrow U H A W E C S.row _ 3 16 256 1 y4 (λ x. x) (as-is r51) (gone y4) refl (λ b o. tt) (Dec'.lit< tt, Dec'.lit< tt)) d101
+          d102 = seq (Typed.give (s15 bs)) (Borrow.t-arr-borrow U H A W E C S.row _ 3 16 256 1 y4 (λ x. x) (as-is r51) (gone y4) refl (λ b o. tt) (Dec'.lit< tt, Dec'.lit< tt)) d101
 
           d103 : Typed.Typed U H A C E (lives z1 T15) b74 Δ0 (at103 bs)
-          d103 = pre (begin 1 _) d102
+          d103 = pre (λ Ψ. Ψ) (begin 1 _) d102
 
           d104 : Typed.Typed U H A C E (lives z1 T13) b75 Δ0 (at104 bs)
-          d104 = seq (Local.t-sc-borrow U H A W E C _ 4 15 0 (Array'.Array L.u64 928) y1 (λ x. x) (Whole.mem-arr U H A W L.u64 928) (gone y1) refl λ b o. tt) d103
+          d104 = seq (Typed.give s13) (Local.t-sc-borrow U H A W E C _ 4 15 0 (Array'.Array L.u64 928) y1 (λ x. x) (Whole.mem-arr U H A W L.u64 928) (gone y1) refl λ b o. tt) d103
 
           d105 : Typed.Typed U H A C E (lives z0 T13) b75 Δ0 (at105 bs)
-          d105 = pre (begin 0 _) d104
+          d105 = pre (λ Ψ. Ψ) (begin 0 _) d104
 
           d106 : Typed.Typed U H A C E (lives z0 T12) b76 Δ0 (at106 bs)
-          d106 = seq (Plain.t-call-plain U H A W C 0 ps·0 r·2 (cl .4) (cl .5) "bench_main::no_cache" (known .2) E (λ pos β. β) _ tt 14 [] (Call.sub-id U H A W _) tt (gone Cache′.mir) tt
-              refl) d105
+          d106 = seq (Typed.both s11) (Plain.t-call-plain U H A W C 0 ps·0 r·2 (cl .4) (cl .5) "bench_main::no_cache" (known .2) E (λ pos β. β) _ tt 14 [] (Call.sub-id U H A W _) tt (gone
+              Cache′.mir) tt refl) d105
 
           d107 : Typed.Typed U H A C E G11 b76 Δ0 (at107 bs)
-          d107 = pre (AtSlots.g-as-by U H A W E (λ ρ. Unit) _ 6 r54 (λ x. x) (Own.told-none U H A (G11 .slots)) λ ρ told. Repeat.whole-arr U H A W L.u64 8 tt ρ) d106
+          d107 = pre (Typed.pass T11 T12 s10) (AtSlots.g-as-by U H A W E (λ ρ. Unit) _ 6 r54 (λ x. x) (Own.told-none U H A (G11 .slots)) λ ρ told. Repeat.whole-arr U H A W L.u64 8 tt ρ) d106
 
-          d108 : Typed.Typed U H A C E (on 5 r50 G8) b77 Δ0 (at108 bs)
-          d108 = seq (Repeat.t-repeat U H A W E C L.u64 (Plain'.uint-lawful U H A W Y.w64) (Copies.cRf (Referent.fInt Y.w64) .copy U H A W) (Plain'.uint-makes U H A W Y.w64) 8 _ 6
-              (Scalar.oInt Y.w64 0) (λ m. 0) (gone y12) tt refl λ m wa. (refl, Dec'.lit< tt)) d107
+          d108 : Typed.Typed U H A C E (on 5 r50 G9) b77 Δ0 (at108 bs)
+          d108 = seq (Typed.pass T10 T11 s9) (Repeat.t-repeat U H A W E C L.u64 (Plain'.uint-lawful U H A W Y.w64) (Copies.cRf (Referent.fInt Y.w64) .copy U H A W) (Plain'.uint-makes U H A W
+              Y.w64) 8 _ 6 (Scalar.oInt Y.w64 0) (λ m. 0) (gone y12) tt refl λ m wa. (refl, Dec'.lit< tt)) d107
 
           d109 : Typed.Typed U H A C E G9 b77 Δ0 (at109 bs)
-          d109 = pre (AtSlots.g-as-by U H A W E (λ ρ. Unit) _ 5 r50 (λ x. x) (Own.told-none U H A (G9 .slots)) λ ρ told. Repeat.whole-arr U H A W L.u64 8342 tt ρ) d108
+          d109 = pre (Typed.pass T9 T10 s8) (AtSlots.g-as-by U H A W E (λ ρ. Unit) _ 5 r50 (λ x. x) (Own.told-none U H A (G9 .slots)) λ ρ told. Repeat.whole-arr U H A W L.u64 8342 tt ρ) d108
 
-          d110 : Typed.Typed U H A C E G8 b78 Δ0 (at110 bs)
-          d110 = seq (Repeat.t-repeat U H A W E C L.u64 (Plain'.uint-lawful U H A W Y.w64) (Copies.cRf (Referent.fInt Y.w64) .copy U H A W) (Plain'.uint-makes U H A W Y.w64) 8342 _ 5
-              (Scalar.oInt Y.w64 0) (λ m. 0) (gone y10) tt refl λ m wa. (refl, Dec'.lit< tt)) d109
+          d110 : Typed.Typed U H A C E (lives z0 T8) b78 Δ0 (at110 bs)
+          d110 = seq (Typed.pass T8 T9 s7) (Repeat.t-repeat U H A W E C L.u64 (Plain'.uint-lawful U H A W Y.w64) (Copies.cRf (Referent.fInt Y.w64) .copy U H A W) (Plain'.uint-makes U H A W
+              Y.w64) 8342 _ 5 (Scalar.oInt Y.w64 0) (λ m. 0) (gone y10) tt refl λ m wa. (refl, Dec'.lit< tt)) d109
 
           d111 : Typed.Typed U H A C E G7 b78 Δ0 (at111 bs)
-          d111 = pre (AtSlots.g-as-by U H A W E (λ ρ. Unit) _ 4 r52 (λ x. x) (Own.told-none U H A (G7 .slots)) λ ρ told. Repeat.whole-arr U H A W L.u64 928 tt ρ) d110
+          d111 = pre (Typed.pass T7 T8 s6) (AtSlots.g-as-by U H A W E (λ ρ. Unit) _ 4 r52 (λ x. x) (Own.told-none U H A (G7 .slots)) λ ρ told. Repeat.whole-arr U H A W L.u64 928 tt ρ) d110
 
           d112 : Typed.Typed U H A C E (lives z0 T6) b79 Δ0 (at112 bs)
-          d112 = seq (Repeat.t-repeat U H A W E C L.u64 (Plain'.uint-lawful U H A W Y.w64) (Copies.cRf (Referent.fInt Y.w64) .copy U H A W) (Plain'.uint-makes U H A W Y.w64) 928 _ 4
-              (Scalar.oInt Y.w64 0) (λ m. 0) (gone y11) tt refl λ m wa. (refl, Dec'.lit< tt)) d111
+          d112 = seq (Typed.pass T6 T7 s5) (Repeat.t-repeat U H A W E C L.u64 (Plain'.uint-lawful U H A W Y.w64) (Copies.cRf (Referent.fInt Y.w64) .copy U H A W) (Plain'.uint-makes U H A W
+              Y.w64) 928 _ 4 (Scalar.oInt Y.w64 0) (λ m. 0) (gone y11) tt refl λ m wa. (refl, Dec'.lit< tt)) d111
 
           d113 : Typed.Typed U H A C E (lives z0 T5) b79 Δ0 (at113 bs)
-          d113 = pre (room 2 S.ty (S.room U H A W)) d112
+          d113 = pre (Typed.pass T5 T6 s4) (room 2 S.ty (S.room U H A W)) d112
 
           d114 : Typed.Typed U H A C E G4 b79 Δ0 (at114 bs)
-          d114 = pre (AtSlots.g-as-by U H A W E (λ ρ. Unit) _ 3 r51 (λ x. x) (Own.told-none U H A (G4 .slots)) λ ρ told. Repeat.whole-arr U H A W S.row 256 tt ρ) d113
+          d114 = pre (Typed.pass T4 T5 s3) (AtSlots.g-as-by U H A W E (λ ρ. Unit) _ 3 r51 (λ x. x) (Own.told-none U H A (G4 .slots)) λ ρ told. Repeat.whole-arr U H A W S.row 256 tt ρ) d113
 
           d115 : Typed.Typed U H A C E G3 b80 Δ0 (at115 bs)
-          d115 = seq (Repeat.t-repeat-by U H A W E C S.row (S.lawful U H A W) (S.copies .copy U H A W) 256 _ 3 (Scalar.oAt 2 S.ty λ x. Steps.only (S.copies .vals x)) (λ m. m .1 .1 .0) (λ ρ.
-              Unit) (gone y15) (S.reads U H A W, refl) refl (Own.told-none U H A (G3 .slots)) λ ρ m pf wa. Gives.elem-local U H A W E ρ S.row (λ x. Steps.only (S.copies .vals x)) (S.copies
-              .tells) (Row.out 3 (G3 .locals)) m (λ ρ. Unit) pf 2 S.ty (λ x. x) (Yields.yields-copy U H A W (λ ρ. Unit) S.row refl (S.copies .copy U H A W) S.here (λ x. x) (λ x. x) (λ ρ
-              told. S.in-mem U H A W ρ) λ ρ told. S.of-mem U H A W ρ)) d114
+          d115 = seq (Typed.pass T3 T4 s2) (Repeat.t-repeat-by U H A W E C S.row (S.lawful U H A W) (S.copies .copy U H A W) 256 _ 3 (Scalar.oAt 2 S.ty λ x. Steps.only (S.copies .vals x)) (λ
+              m. m .1 .1 .0) (λ ρ. Unit) (gone y15) (S.reads U H A W, refl) refl (Own.told-none U H A (G3 .slots)) λ ρ m pf wa. Gives.elem-local U H A W E ρ S.row (λ x. Steps.only (S.copies
+              .vals x)) (S.copies .tells) (Row.out 3 (G3 .locals)) m (λ ρ. Unit) pf 2 S.ty (λ x. x) (Yields.yields-copy U H A W (λ ρ. Unit) S.row refl (S.copies .copy U H A W) S.here (λ x.
+              x) (λ x. x) (λ ρ told. S.in-mem U H A W ρ) λ ρ told. S.of-mem U H A W ρ)) d114
 
           d116 : Typed.Typed U H A C E (lives z0 T2) b81 Δ0 (at116 bs)
-          d116 = seq (Plain.t-call-plain U H A W C 0 ps·0 r·1 (cl .2) (cl .3) "bench_main::no_sample" (known .1) E (λ pos β. β) _ tt 2 [] (Call.sub-id U H A W _) tt (gone S.ty) tt refl) d115
+          d116 = seq (Typed.both s1) (Plain.t-call-plain U H A W C 0 ps·0 r·1 (cl .2) (cl .3) "bench_main::no_sample" (known .1) E (λ pos β. β) _ tt 2 [] (Call.sub-id U H A W _) tt (gone
+              S.ty) tt refl) d115
 
           d117 : Typed.Typed U H A C E G0 b82 Δ0 (at117 bs)
-          d117 = seq (Plain.t-call-plain U H A W C 0 ps·0 r·0 (cl .0) (cl .1) "bench_main::read_load" (known .0) E (λ pos β. β) _ tt 1 [] (Call.sub-id U H A W _) tt (gone Load′.mir) tt refl)
-              d116
+          d117 = seq (Typed.both s0) (Plain.t-call-plain U H A W C 0 ps·0 r·0 (cl .0) (cl .1) "bench_main::read_load" (known .0) E (λ pos β. β) _ tt 1 [] (Call.sub-id U H A W _) tt (gone
+              Load′.mir) tt refl) d116
 
           pub typed : Typed.Typed U H A C E (Function.Γin 0 ps r xs m κs qs) b82 (Function.Δret 0 ps r xs m κs qs) (Φ bs)
           typed = d117

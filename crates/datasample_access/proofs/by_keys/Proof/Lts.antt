@@ -142,6 +142,9 @@ r11 = Rows'.any-gone y2
 abbrev r12 : Row.Row
 r12 = Rows'.any-gone y1
 
+abbrev r13 : Row.Row
+r13 = Rows'.any-gone y3
+
 abbrev r14 : Row.Row
 r14 = Rows'.any-gone y4
 
@@ -159,6 +162,9 @@ r18 = Rows'.any-gone (L.sl y9)
 
 abbrev r19 : Row.Row
 r19 = Relend.ssptr L.u64 y8 4
+
+abbrev r20 : Row.Row
+r20 = Rows'.sslice L.u64 y8 4
 
 abbrev r21 : Row.Row
 r21 = Mut.msleft L.u64 y9
@@ -307,10 +313,68 @@ t0 = (0, r33) ∷ (1, r31) ∷ (2, r2) ∷ (3, r24) ∷ (4, r15) ∷ (5, L.hbool
     (15, r17) ∷ []
 
 abbrev t1 : List.List Row.Entry
-t1 = (16, r11) ∷ (17, r12) ∷ (18, (Rows'.any-gone y3)) ∷ (19, r28) ∷ (20, r25) ∷ (21, r14) ∷ (22, r23) ∷ (23, r18) ∷ []
+t1 = (16, r11) ∷ (17, r12) ∷ (18, r13) ∷ (19, r28) ∷ (20, r25) ∷ (21, r14) ∷ (22, r23) ∷ (23, r18) ∷ []
+
+abbrev t12 : List.List Row.Entry
+t12 = (0, r33) ∷ (1, r31) ∷ (2, r2) ∷ (3, r24) ∷ (4, r15) ∷ (5, L.hbool) ∷ (6, r8) ∷ (7, r35) ∷ (8, L.h64) ∷ (9, L.g64) ∷ (10, L.g64) ∷ (11, r34) ∷ (12, L.g64) ∷ (13, L.gbool) ∷ (14, r22) ∷
+    (15, r20) ∷ []
+
+abbrev t15 : List.List Row.Entry
+t15 = (0, r33) ∷ (1, r31) ∷ (2, r0) ∷ (3, r24) ∷ (4, r15) ∷ (5, L.hbool) ∷ (6, r16) ∷ (7, r35) ∷ (8, L.h64) ∷ (9, L.g64) ∷ (10, L.g64) ∷ (11, r34) ∷ (12, L.g64) ∷ (13, L.gbool) ∷ (14, r22) ∷
+    (15, r17) ∷ []
+
+abbrev t16 : List.List Row.Entry
+t16 = (16, r3) ∷ (17, r12) ∷ (18, r13) ∷ (19, r28) ∷ (20, r25) ∷ (21, r14) ∷ (22, r23) ∷ (23, r18) ∷ []
+
+abbrev t19 : List.List Row.Entry
+t19 = (0, r33) ∷ (1, r31) ∷ (2, r0) ∷ (3, r24) ∷ (4, r15) ∷ (5, L.hbool) ∷ (6, r16) ∷ (7, r32) ∷ (8, L.h64) ∷ (9, L.h64) ∷ (10, L.g64) ∷ (11, r34) ∷ (12, L.g64) ∷ (13, L.gbool) ∷ (14, r22) ∷
+    (15, r17) ∷ []
+
+abbrev t21 : List.List Row.Entry
+t21 = (16, r11) ∷ (17, r6) ∷ (18, r13) ∷ (19, r28) ∷ (20, r25) ∷ (21, r14) ∷ (22, r23) ∷ (23, r18) ∷ []
+
+abbrev t24 : List.List Row.Entry
+t24 = (0, r33) ∷ (1, r31) ∷ (2, r2) ∷ (3, r24) ∷ (4, r15) ∷ (5, L.hbool) ∷ (6, r16) ∷ (7, r35) ∷ (8, L.h64) ∷ (9, L.h64) ∷ (10, L.g64) ∷ (11, r34) ∷ (12, L.g64) ∷ (13, L.hbool) ∷ (14, r22) ∷
+    (15, r17) ∷ []
+
+abbrev t28 : List.List Row.Entry
+t28 = (0, r29) ∷ (1, r34) ∷ (2, r2) ∷ (3, r24) ∷ (4, r15) ∷ (5, L.hbool) ∷ (6, r16) ∷ (7, r30) ∷ (8, L.h64) ∷ (9, L.h64) ∷ (10, L.g64) ∷ (11, r34) ∷ (12, L.g64) ∷ (13, L.gbool) ∷ (14, r22) ∷
+    (15, r17) ∷ []
+
+abbrev t34 : List.List Row.Entry
+t34 = (0, r33) ∷ (1, r31) ∷ (2, r1) ∷ (3, r24) ∷ (4, r15) ∷ (5, L.hbool) ∷ (6, r16) ∷ (7, r35) ∷ (8, L.h64) ∷ (9, L.h64) ∷ (10, L.h64) ∷ (11, r34) ∷ (12, L.g64) ∷ (13, L.gbool) ∷ (14, r22) ∷
+    (15, r17) ∷ []
 
 abbrev t35 : List.List Row.Entry
 t35 = (16, r11) ∷ (17, r12) ∷ (18, r4) ∷ (19, r28) ∷ (20, r25) ∷ (21, r14) ∷ (22, r23) ∷ (23, r18) ∷ []
+
+abbrev t39 : List.List Row.Entry
+t39 = (0, r33) ∷ (1, r31) ∷ (2, r1) ∷ (3, r10) ∷ (4, r15) ∷ (5, L.hbool) ∷ (6, r16) ∷ (7, Rows'.sc-shr r35 (Array.Array L.u64 256) (λ x. x) 9) ∷ (8, L.h64) ∷ (9, L.h64) ∷ (10, L.h64) ∷
+    (11, r34) ∷ (12, L.g64) ∷ (13, L.gbool) ∷ (14, r22) ∷ (15, r17) ∷ []
+
+abbrev t40 : List.List Row.Entry
+t40 = (16, r11) ∷ (17, r12) ∷ (18, r4) ∷ (19, r28) ∷ (20, r26) ∷ (21, r5) ∷ (22, r23) ∷ (23, r18) ∷ []
+
+abbrev t44 : List.List Row.Entry
+t44 = (0, r33) ∷ (1, r31) ∷ (2, r1) ∷ (3, r10) ∷ (4, r15) ∷ (5, L.hbool) ∷ (6, r9) ∷ (7, Rows'.sc-shr r35 (Array.Array L.u64 256) (λ x. x) 9) ∷ (8, L.h64) ∷ (9, L.h64) ∷ (10, L.h64) ∷
+    (11, r31) ∷ (12, L.g64) ∷ (13, L.gbool) ∷ (14, r22) ∷ (15, r17) ∷ []
+
+abbrev t45 : List.List Row.Entry
+t45 = (16, r11) ∷ (17, r12) ∷ (18, r7) ∷ (19, r28) ∷ (20, r27) ∷ (21, r5) ∷ (22, r23) ∷ (23, r21) ∷ []
+
+abbrev t46 : List.List Row.Entry
+t46 = (16, r11) ∷ (17, r12) ∷ (18, r7) ∷ (19, r28) ∷ (20, r27) ∷ (21, r14) ∷ (22, r23) ∷ (23, r21) ∷ []
+
+abbrev t48 : List.List Row.Entry
+t48 = (0, r33) ∷ (1, r34) ∷ (2, r2) ∷ (3, r10) ∷ (4, r15) ∷ (5, L.hbool) ∷ (6, r9) ∷ (7, Rows'.sc-shr r35 (Array.Array L.u64 256) (λ x. x) 9) ∷ (8, L.h64) ∷ (9, L.h64) ∷ (10, L.h64) ∷
+    (11, r31) ∷ (12, L.g64) ∷ (13, L.gbool) ∷ (14, r22) ∷ (15, r17) ∷ []
+
+abbrev t49 : List.List Row.Entry
+t49 = (16, r11) ∷ (17, r12) ∷ (18, r13) ∷ (19, r28) ∷ (20, r27) ∷ (21, r14) ∷ (22, r23) ∷ (23, r21) ∷ []
+
+abbrev t57 : List.List Row.Entry
+t57 = (0, r29) ∷ (1, r34) ∷ (2, r2) ∷ (3, r24) ∷ (4, r15) ∷ (5, L.hbool) ∷ (6, r16) ∷ (7, r30) ∷ (8, L.g64) ∷ (9, L.g64) ∷ (10, L.h64) ∷ (11, r31) ∷ (12, L.g64) ∷ (13, L.gbool) ∷ (14, r22) ∷
+    (15, r17) ∷ []
 
 abbrev on : Nat.ℕ → Row.Row → Row.Cx → Row.Cx
 on n r Γ = record { locals = Row.setRow n (n, r) (Γ .locals); slots = Γ .slots }
@@ -349,10 +413,10 @@ abbrev T16 : Row.Cx
 T16 = on 14 r19 (on 6 r8 T14)
 
 abbrev T17 : Row.Cx
-T17 = on 15 (Rows'.sslice L.u64 y8 4) (on 6 r8 T14)
+T17 = on 15 r20 (on 6 r8 T14)
 
 abbrev T18 : Row.Cx
-T18 = on 8 L.h64 T17
+T18 = record { locals = List._++_ t12 t1; slots = [] }
 
 abbrev T19 : Row.Cx
 T19 = on 15 r17 T18
@@ -361,16 +425,16 @@ abbrev T21 : Row.Cx
 T21 = on 6 r16 T19
 
 abbrev T24 : Row.Cx
-T24 = on 16 r3 (on 2 r0 T21)
+T24 = record { locals = List._++_ t15 t16; slots = [] }
 
 abbrev T26 : Row.Cx
 T26 = on 17 (Rows'.mref (Array.Array L.u64 256) y1 6) (on 7 r32 T24)
 
 abbrev T27 : Row.Cx
-T27 = on 17 r6 (on 9 L.h64 T26)
+T27 = on 17 r6 (on 9 L.h64 (on 7 r32 T24))
 
 abbrev T28 : Row.Cx
-T28 = on 17 r6 (on 9 L.h64 (on 7 r32 (on 2 r0 T21)))
+T28 = record { locals = List._++_ t19 t21; slots = [] }
 
 abbrev T30 : Row.Cx
 T30 = on 2 r2 T28
@@ -379,37 +443,37 @@ abbrev T33 : Row.Cx
 T33 = on 9 L.h64 T21
 
 abbrev T35 : Row.Cx
-T35 = on 13 L.hbool T33
+T35 = record { locals = List._++_ t24 t1; slots = [] }
 
 abbrev T37 : Row.Cx
 T37 = on 7 r30 T35
 
 abbrev T38 : Row.Cx
-T38 = on 7 r30 T33
+T38 = on 13 L.gbool T37
 
 abbrev T39 : Row.Cx
 T39 = on 0 r29 T38
 
 abbrev T40 : Row.Cx
-T40 = on 1 r34 T39
+T40 = record { locals = List._++_ t28 t1; slots = [] }
 
 abbrev T41 : Row.Cx
 T41 = on 5 L.gbool T40
 
 abbrev T42 : Row.Cx
-T42 = on 9 L.h64 T1
+T42 = on 8 L.g64 T41
 
 abbrev T45 : Row.Cx
-T45 = on 12 L.h64 T33
+T45 = on 13 L.gbool (on 12 L.h64 T35)
 
 abbrev T46 : Row.Cx
 T46 = on 10 L.h64 T45
 
 abbrev T47 : Row.Cx
-T47 = on 10 L.h64 T33
+T47 = on 13 L.gbool (on 10 L.h64 T35)
 
 abbrev T49 : Row.Cx
-T49 = on 18 r4 (on 2 r1 T47)
+T49 = record { locals = List._++_ t34 t35; slots = [] }
 
 abbrev T51 : Row.Cx
 T51 = on 19 (Relend.msptr S.row y11 8) (on 3 r10 T49)
@@ -418,7 +482,7 @@ abbrev T52 : Row.Cx
 T52 = on 20 r26 (on 3 r10 T49)
 
 abbrev T54 : Row.Cx
-T54 = on 21 r5 (on 20 r26 (on 18 r4 (on 10 L.h64 (on 9 L.h64 (on 8 L.h64 (on 7 (Rows'.sc-shr r35 (Array.Array L.u64 256) (λ x. x) 9) (on 3 r10 (on 2 r1 T0))))))))
+T54 = record { locals = List._++_ t39 t40; slots = [] }
 
 abbrev T56 : Row.Cx
 T56 = on 22 (Relend.msptr L.u64 y9 10) (on 6 r9 T54)
@@ -427,38 +491,37 @@ abbrev T57 : Row.Cx
 T57 = on 23 (Mut.mslice L.u64 y9 10) (on 6 r9 T54)
 
 abbrev T58 : Row.Cx
-T58 = on 23 r21 (on 21 r5 (on 20 r27 (on 18 r7 (on 11 r31 (on 10 L.h64 (on 9 L.h64 (on 8 L.h64 (on 7 (Rows'.sc-shr r35 (Array.Array L.u64 256) (λ x. x) 9) (on 6 r9 (on 3 r10 (on 2 r1
-    T0)))))))))))
+T58 = record { locals = List._++_ t44 t45; slots = [] }
 
 abbrev T59 : Row.Cx
-T59 = on 23 r21 (on 20 r27 (on 18 r7 (on 11 r31 (on 10 L.h64 (on 9 L.h64 (on 8 L.h64 (on 7 (Rows'.sc-shr r35 (Array.Array L.u64 256) (λ x. x) 9) (on 6 r9 (on 3 r10 (on 2 r1 T0))))))))))
+T59 = on 21 r14 T58
 
 abbrev T60 : Row.Cx
 T60 = on 1 r34 T59
 
 abbrev T62 : Row.Cx
-T62 = on 23 r21 (on 20 r27 (on 11 r31 (on 10 L.h64 (on 9 L.h64 (on 8 L.h64 (on 7 (Rows'.sc-shr r35 (Array.Array L.u64 256) (λ x. x) 9) (on 6 r9 (on 3 r10 (on 1 r34 T0)))))))))
+T62 = record { locals = List._++_ t48 t49; slots = [] }
 
 abbrev T65 : Row.Cx
 T65 = on 20 r25 (on 3 r24 T62)
 
 abbrev T68 : Row.Cx
-T68 = on 23 r21 (on 11 r31 (on 6 r9 (on 1 r34 T47)))
+T68 = on 7 r35 T65
 
 abbrev T70 : Row.Cx
-T70 = on 23 r21 (on 11 r31 (on 10 L.h64 (on 9 L.h64 (on 7 r30 (on 6 r9 (on 1 r34 T19))))))
+T70 = on 7 r30 T65
 
 abbrev T72 : Row.Cx
-T72 = on 11 r31 (on 7 r30 (on 1 r34 T47))
+T72 = on 11 r31 (on 10 L.h64 (on 0 r33 T40))
 
 abbrev T75 : Row.Cx
-T75 = on 0 r29 T72
+T75 = on 11 r31 (on 10 L.h64 T40)
 
 abbrev T76 : Row.Cx
-T76 = on 11 r31 (on 10 L.h64 (on 9 L.h64 T10))
+T76 = on 8 L.g64 T75
 
 abbrev T77 : Row.Cx
-T77 = on 9 L.g64 T76
+T77 = record { locals = List._++_ t57 t1; slots = [] }
 
 abbrev T78 : Row.Cx
 T78 = on 11 r31 T10
@@ -728,12 +791,17 @@ module _ (cl : Claims) where
       abbrev z0 : List.List Row.Life
       z0 = l0 ∷ l1 ∷ Row.lease (κs .1 .1 .0) (qs .1 .1 .0) ∷ l2 ∷ Row.off ∷ Row.off ∷ Row.off ∷ Row.off ∷ Row.off ∷ Row.off ∷ Row.off ∷ []
 
-      abbrev z2 : List.List Row.Life
-      z2 = Row.off ∷ l1 ∷ Row.lease (κs .1 .1 .0) (qs .1 .1 .0) ∷ l2 ∷ Row.off ∷ Row.alive ∷ Row.alive ∷ Row.off ∷ Row.off ∷ Row.off ∷ Row.off ∷ []
+      abbrev z6 : List.List Row.Life
+      z6 = Row.off ∷ Row.off ∷ Row.lease (κs .1 .1 .0) (qs .1 .1 .0) ∷ Row.off ∷ Row.off ∷ Row.off ∷ Row.off ∷ Row.alive ∷ Row.alive ∷ Row.alive ∷ Row.alive ∷ []
 
       abbrev g34 : List.List Row.Entry
       g34 = (0, r33) ∷ (1, r31) ∷ (2, Rows'.mref-owed (Array.Array L.u64 928) y0 0 7 l0) ∷ (3, r24) ∷ (4, r15) ∷ (5, L.hbool) ∷ (6, r16) ∷ (7, r35) ∷ (8, L.h64) ∷ (9, L.h64) ∷ (10, L.h64) ∷
           (11, r34) ∷ (12, L.g64) ∷ (13, L.gbool) ∷ (14, r22) ∷ (15, r17) ∷ []
+
+      abbrev g44 : List.List Row.Entry
+      g44 = (0, r33) ∷ (1, r31) ∷ (2, Rows'.mref-owed (Array.Array L.u64 928) y0 0 7 l0) ∷ (3, Relend.mslice-owed S.row y10 1 8 l1) ∷ (4, r15) ∷ (5, L.hbool) ∷
+          (6, Relend.mslice-owed L.u64 y7 3 10 l2) ∷ (7, Rows'.sc-shr r35 (Array.Array L.u64 256) (λ x. x) 9) ∷ (8, L.h64) ∷ (9, L.h64) ∷ (10, L.h64) ∷ (11, r31) ∷ (12, L.g64) ∷
+          (13, L.gbool) ∷ (14, r22) ∷ (15, r17) ∷ []
 
       abbrev G0 : Row.Cx
       G0 = lives z0 T0
@@ -745,20 +813,15 @@ module _ (cl : Claims) where
       G18 = lives (l0 ∷ l1 ∷ Row.lease (κs .1 .1 .0) (qs .1 .1 .0) ∷ Row.off ∷ Row.alive ∷ Row.off ∷ Row.off ∷ Row.off ∷ Row.off ∷ Row.off ∷ Row.off ∷ []) (on 6 (Reshare'.mslice-owedS L.u64
           y7 3 4 l2) T18)
 
+      abbrev G27 : Row.Cx
+      G27 = lives (Row.off ∷ l1 ∷ Row.lease (κs .1 .1 .0) (qs .1 .1 .0) ∷ l2 ∷ Row.off ∷ Row.alive ∷ Row.alive ∷ Row.off ∷ Row.off ∷ Row.off ∷ Row.off ∷ []) (on 16 r3 (on 2
+          (Reshare.mref-owedS (Array.Array L.u64 928) y0 0 5 l0) T28))
+
       abbrev G34 : Row.Cx
       G34 = lives z0 T33
 
       abbrev G35 : Row.Cx
       G35 = lives z0 T35
-
-      abbrev G50 : Row.Cx
-      G50 = record
-          { locals = List._++_ g34 t35; slots = Row.off ∷ l1 ∷ Row.lease (κs .1 .1 .0) (qs .1 .1 .0) ∷ l2 ∷ Row.off ∷ Row.off ∷ Row.off ∷ Row.alive ∷ Row.alive ∷ Row.off ∷ Row.off ∷ [] }
-
-      abbrev G58 : Row.Cx
-      G58 = lives (Row.off ∷ Row.off ∷ Row.lease (κs .1 .1 .0) (qs .1 .1 .0) ∷ Row.off ∷ Row.off ∷ Row.off ∷ Row.off ∷ Row.alive ∷ Row.alive ∷ Row.alive ∷ Row.alive ∷ []) (on 23 r21 (on 21
-          r5 (on 20 r27 (on 18 r7 (on 11 r31 (on 7 (Rows'.sc-shr r35 (Array.Array L.u64 256) (λ x. x) 9) (on 6 (Relend.mslice-owed L.u64 y7 3 10 l2) (on 3 (Relend.mslice-owed S.row y10 1 8
-          l1) G50))))))))
 
       abbrev Δ0 : Typed.Outs
       Δ0 = record { next = Option.none; exits = []; returns = Option.some (lives z0 T1) }
@@ -778,13 +841,13 @@ module _ (cl : Claims) where
             (Rows'.whole R) R (λ x. x) (λ x. x)
         copied R one c = Yields.yields-copy U H A W (λ ρ. Unit) R one c (Rows'.whole R) (λ x. x) (λ x. x) (λ ρ told. Local.mem-whole U H A W R ρ) λ ρ told. Local.whole-mem U H A W R ρ
 
-        pre : {Γ Γ₁ : Row.Cx} {b : Y.Body} {Δ : Typed.Outs} {φ : Typed.Tf Γ Γ₁} {Φ : Typed.TF Γ₁ Δ} → Typed.Ghost U H A E Γ Γ₁ φ → Typed.Typed U H A C E Γ₁ b Δ Φ → Typed.Typed U H A C E Γ b
+        pre : {Γ Γ₁ : Row.Cx} {b : Y.Body} {Δ : Typed.Outs} {Φ : Typed.TF Γ₁ Δ} (φ : Typed.Tf Γ Γ₁) → Typed.Ghost U H A E Γ Γ₁ φ → Typed.Typed U H A C E Γ₁ b Δ Φ → Typed.Typed U H A C E Γ b
             Δ (λ Ψ. φ (Φ Ψ))
-        pre = Typed.g-pre U H A W C E _ _ _ _ _ _
+        pre φ = Typed.g-pre U H A W C E _ _ _ _ φ _
 
-        seq : {Γ Γ₁ : Row.Cx} {a b : Y.Body} {Δ : Typed.Outs} {φ : Typed.Tf Γ Γ₁} {Φ : Typed.TF Γ₁ Δ} → Typed.Stmt U H A C E Γ a Γ₁ φ → Typed.Typed U H A C E Γ₁ b Δ Φ → Typed.Typed U H A C E
+        seq : {Γ Γ₁ : Row.Cx} {a b : Y.Body} {Δ : Typed.Outs} {Φ : Typed.TF Γ₁ Δ} (φ : Typed.Tf Γ Γ₁) → Typed.Stmt U H A C E Γ a Γ₁ φ → Typed.Typed U H A C E Γ₁ b Δ Φ → Typed.Typed U H A C E
             Γ (Y.seq a b) Δ (λ Ψ. φ (Φ Ψ))
-        seq = Typed.s-seq U H A W C E _ _ _ _ _ _ _
+        seq φ = Typed.s-seq U H A W C E _ _ _ _ _ φ _
 
         room : {Γ : Row.Cx} (n : Nat.ℕ) (τ : Y.Ty) → Reads.ToRoom U H A (Row.getRow n (Γ .locals) .1) τ → Typed.Ghost U H A E Γ (Scalar.After Γ n (Rows'.any-gone τ)) (Typed.pass Γ
             (Scalar.After Γ n (Rows'.any-gone τ)) (Scalar.n-room Γ n τ))
@@ -806,120 +869,132 @@ module _ (cl : Claims) where
         reads-sc = Scalar.reads-sc U H A W
 
         d2 : Typed.Typed U H A C E (lives z0 T9) b3 Δ1 at2
-        d2 = pre (room 1 Cache′.mir (Local.room-whole U H A W (Declared.row Cache.the-type) Cache′.mir refl)) (pre (room 5 Y.tyBool (room-sc Row.sBool)) (Typed.t-return U H A W C E Δ1 tt))
+        d2 = pre (Typed.pass T9 T10 s7) (room 1 Cache′.mir (Local.room-whole U H A W (Declared.row Cache.the-type) Cache′.mir refl)) (pre (Typed.pass T10 T1 s8) (room 5 Y.tyBool (room-sc
+            Row.sBool)) (Typed.t-return U H A W C E Δ1 tt))
 
         d4 : Typed.Typed U H A C E G7 b4 Δ1 at4
-        d4 = pre (room 13 Y.tyBool (room-sc Row.sBool)) (seq (Plain.t-call-plain U H A W C 0 ps·0 r·0 (cl .0) (cl .1) "datasample_access::declined" (known .0) E (λ pos β. β) _
-            (record { pos = 1; st = []; d = 0; at = λ x. x }, (Num.vLit 1, tt)) 0 [] (Call.sub-id U H A W _)
+        d4 = pre (Typed.pass T7 T0 s5) (room 13 Y.tyBool (room-sc Row.sBool)) (seq (Typed.both s6) (Plain.t-call-plain U H A W C 0 ps·0 r·0 (cl .0) (cl .1) "datasample_access::declined"
+            (known .0) E (λ pos β. β) _ (record { pos = 1; st = []; d = 0; at = λ x. x }, (Num.vLit 1, tt)) 0 [] (Call.sub-id U H A W _)
             ((copied (Declared.row Cache.the-type) refl (Copies.cStruct Cache.the-type Cache′.the-laws Cache′.the-copy .copy U H A W), refl), (tt, tt)) (gone ListOutcome′.mir) tt refl) d2)
 
         d6 : Typed.Typed U H A C E G7 b5 Δ1 at6
-        d6 = pre (room 13 Y.tyBool (room-sc Row.sBool)) (Typed.t-skip U H A W C E Δ1 tt)
+        d6 = pre (Typed.pass T7 T0 s5) (room 13 Y.tyBool (room-sc Row.sBool)) (Typed.t-skip U H A W C E Δ1 tt)
 
         d8 : Typed.Typed U H A C E (lives z0 T5) b6 Δ1 at8
-        d8 = pre (room 12 (Y.tyInt Y.w64) (room-sc (Row.sInt Y.w64))) (Scalar.t-cond U H A W E C _ 13 (λ x. x) b4 b5 Δ1 at4 at6 (reads-sc Row.sBool) refl d4 d6)
+        d8 = pre (Typed.pass T5 T7 s4) (room 12 (Y.tyInt Y.w64) (room-sc (Row.sInt Y.w64))) (Scalar.t-cond U H A W E C _ 13 (λ x. x) b4 b5 Δ1 at4 at6 (reads-sc Row.sBool) refl d4 d6)
 
         d13 : Typed.Typed U H A C E (lives z0 T39) b3 Δ2 at13
-        d13 = pre (room 1 Cache′.mir (Local.room-whole U H A W (Declared.row Cache.the-type) Cache′.mir refl)) (pre (room 5 Y.tyBool (room-sc Row.sBool)) (pre (room 8 (Y.tyInt Y.w64)
-            (room-sc (Row.sInt Y.w64))) (pre (room 9 (Y.tyInt Y.w64) (room-sc (Row.sInt Y.w64))) (Typed.t-return U H A W C E Δ2 tt))))
+        d13 = pre (Typed.pass T39 T40 s36) (room 1 Cache′.mir (Local.room-whole U H A W (Declared.row Cache.the-type) Cache′.mir refl)) (pre (Typed.pass T40 T41 s37) (room 5 Y.tyBool
+            (room-sc Row.sBool)) (pre (Typed.pass T41 T42 s38) (room 8 (Y.tyInt Y.w64) (room-sc (Row.sInt Y.w64))) (pre (Typed.pass T42 T1 s39) (room 9 (Y.tyInt Y.w64) (room-sc (Row.sInt
+            Y.w64))) (Typed.t-return U H A W C E Δ2 tt))))
 
         d16 : Typed.Typed U H A C E G35 b17 Δ2 at16
-        d16 = pre (room 7 y13 (Init.room-arr U H A W L.u64 256 0 256 refl)) (pre (room 13 Y.tyBool (room-sc Row.sBool)) (seq (Plain.t-call-plain U H A W C 0 ps·0 r·0 (cl .0) (cl .1)
-            "datasample_access::declined" (known .0) E (λ pos β. β) _ (record { pos = 1; st = []; d = 0; at = λ x. x }, (Num.vAt 9 λ x. x, tt)) 0 [] (Call.sub-id U H A W _)
+        d16 = pre (Typed.pass T35 T37 s33) (room 7 y13 (Init.room-arr U H A W L.u64 256 0 256 refl)) (pre (Typed.pass T37 T38 s34) (room 13 Y.tyBool (room-sc Row.sBool)) (seq (Typed.both
+            s35) (Plain.t-call-plain U H A W C 0 ps·0 r·0 (cl .0) (cl .1) "datasample_access::declined" (known .0) E (λ pos β. β) _
+            (record { pos = 1; st = []; d = 0; at = λ x. x }, (Num.vAt 9 λ x. x, tt)) 0 [] (Call.sub-id U H A W _)
             ((copied (Declared.row Cache.the-type) refl (Copies.cStruct Cache.the-type Cache′.the-laws Cache′.the-copy .copy U H A W), refl), ((reads-sc (Row.sInt Y.w64), refl), tt)) (gone
             ListOutcome′.mir) tt refl) d13))
 
         d18 : Typed.Typed U H A C E G35 b5 Δ2 at18
-        d18 = pre (room 13 Y.tyBool (room-sc Row.sBool)) (Typed.t-skip U H A W C E Δ2 tt)
+        d18 = pre (Typed.pass T35 T33 s40) (room 13 Y.tyBool (room-sc Row.sBool)) (Typed.t-skip U H A W C E Δ2 tt)
 
         d19 : Typed.Typed U H A C E G35 b19 Δ2 at19
         d19 = Scalar.t-cond U H A W E C _ 13 (λ x. x) b17 b5 Δ2 at16 at18 (reads-sc Row.sBool) refl d16 d18
 
         d25 : Typed.Typed U H A C E (lives z0 T75) b3 Δ0 at25
-        d25 = pre (room 8 (Y.tyInt Y.w64) (room-sc (Row.sInt Y.w64))) (pre (room 9 (Y.tyInt Y.w64) (room-sc (Row.sInt Y.w64))) (pre (room 10 (Y.tyInt Y.w64) (room-sc (Row.sInt Y.w64))) (pre
-            (room 11 Cache′.mir (Local.room-whole U H A W (Declared.row Cache.the-type) Cache′.mir refl)) (pre (room 5 Y.tyBool (room-sc Row.sBool)) (Typed.t-return U H A W C E Δ0 tt)))))
+        d25 = pre (Typed.pass T75 T76 s72) (room 8 (Y.tyInt Y.w64) (room-sc (Row.sInt Y.w64))) (pre (Typed.pass T76 T77 s73) (room 9 (Y.tyInt Y.w64) (room-sc (Row.sInt Y.w64))) (pre
+            (Typed.pass T77 T78 s74) (room 10 (Y.tyInt Y.w64) (room-sc (Row.sInt Y.w64))) (pre (Typed.pass T78 T10 s75) (room 11 Cache′.mir (Local.room-whole U H A W (Declared.row
+            Cache.the-type) Cache′.mir refl)) (pre (Typed.pass T10 T1 s8) (room 5 Y.tyBool (room-sc Row.sBool)) (Typed.t-return U H A W C E Δ0 tt)))))
 
-        d33 : Typed.Typed U H A C E (lives (l0 ∷ l1 ∷ Row.lease (κs .1 .1 .0) (qs .1 .1 .0) ∷ Row.off ∷ Row.off ∷ Row.off ∷ Row.off ∷ Row.off ∷ Row.off ∷ Row.dead ∷ Row.alive ∷ []) (on 23
-            r21 (on 8 L.h64 (on 7 (Rows'.sc-shr r35 (Array.Array L.u64 256) (λ x. x) 9) (on 6 (Relend.mslice-owed L.u64 y7 3 10 l2) (on 0 r33 T76)))))) b31 Δ0 at33
-        d33 = pre (Local.g-back-shr U H A W E _ 7 9 r35 (Array.Array L.u64 256) (λ x. x) (λ x. x) (as-is (Rows'.sc-shr r35 (Array.Array L.u64 256) (λ x. x) 9)) (Local.home-of U H A r35
-            (Array.Array L.u64 256) (λ x. x) (λ x. x) (Whole.arr-mem U H A W L.u64 256 tt) λ x k. refl) refl) (pre (Lifetime.g-forget U H A W E _ 9 Row.dead refl) (pre (room 7 y13
-            (Init.room-arr U H A W L.u64 256 0 256 refl)) (pre (Lifetime.g-end U H A W E _ 10 refl) (pre (Relend.g-back-sl U H A W E L.u64 _ 23 6 3 10 y7 y9 l2 (λ x. x) (λ x. x) (as-is r21)
-            (as-is (Relend.mslice-owed L.u64 y7 3 10 l2)) refl refl) (pre (Know.g-sl-known U H A W (Referent.fInt Y.w64) E _ 6 3 y7 l2 0 (λ x. x) record { fits = Dec'.lit< tt } (as-is r16)
-            refl tt) (pre (Lifetime.g-forget U H A W E _ 10 Row.dead refl) (seq (Plain.t-call-plain U H A W C 0 ps·0 r·0 (cl .8) (cl .9) "datasample_access::answered" (known .4) E (λ pos β.
-            β) _ (record { pos = 11; st = []; d = 0; at = λ x. x }, (Num.vAt 10 λ x. x, tt)) 0 [] (Call.sub-id U H A W _)
+        d33 : Typed.Typed U H A C E (lives (l0 ∷ l1 ∷ Row.lease (κs .1 .1 .0) (qs .1 .1 .0) ∷ Row.off ∷ Row.off ∷ Row.off ∷ Row.off ∷ Row.off ∷ Row.off ∷ Row.dead ∷ Row.alive ∷ []) (on 6
+            (Relend.mslice-owed L.u64 y7 3 10 l2) T65)) b31 Δ0 at33
+        d33 = pre (Typed.pass T65 T68 s64) (Local.g-back-shr U H A W E _ 7 9 r35 (Array.Array L.u64 256) (λ x. x) (λ x. x) (as-is (Rows'.sc-shr r35 (Array.Array L.u64 256) (λ x. x) 9))
+            (Local.home-of U H A r35 (Array.Array L.u64 256) (λ x. x) (λ x. x) (Whole.arr-mem U H A W L.u64 256 tt) λ x k. refl) refl) (pre (λ Ψ. Ψ) (Lifetime.g-forget U H A W E _ 9 Row.dead
+            refl) (pre (Typed.pass T68 T70 s66) (room 7 y13 (Init.room-arr U H A W L.u64 256 0 256 refl)) (pre (λ Ψ. Ψ) (Lifetime.g-end U H A W E _ 10 refl) (pre (Typed.both s68)
+            (Relend.g-back-sl U H A W E L.u64 _ 23 6 3 10 y7 y9 l2 (λ x. x) (λ x. x) (as-is r21) (as-is (Relend.mslice-owed L.u64 y7 3 10 l2)) refl refl) (pre (Typed.give s69)
+            (Know.g-sl-known U H A W (Referent.fInt Y.w64) E _ 6 3 y7 l2 0 (λ x. x) record { fits = Dec'.lit< tt } (as-is r16) refl tt) (pre (λ Ψ. Ψ) (Lifetime.g-forget U H A W E _ 10
+            Row.dead refl) (seq (Typed.both s71) (Plain.t-call-plain U H A W C 0 ps·0 r·0 (cl .8) (cl .9) "datasample_access::answered" (known .4) E (λ pos β. β) _
+            (record { pos = 11; st = []; d = 0; at = λ x. x }, (Num.vAt 10 λ x. x, tt)) 0 [] (Call.sub-id U H A W _)
             ((copied (Declared.row Cache.the-type) refl (Copies.cStruct Cache.the-type Cache′.the-laws Cache′.the-copy .copy U H A W), refl), ((reads-sc (Row.sInt Y.w64), refl), tt)) (gone
             ListOutcome′.mir) tt refl) d25)))))))
 
-        d41 : Typed.Typed U H A C E (on 21 r14 G58) b31 Δ0 at41
-        d41 = pre (room 1 Cache′.mir (Local.room-whole U H A W (Declared.row Cache.the-type) Cache′.mir refl)) (pre (Lifetime.g-end U H A W E _ 7 refl) (pre (Reborrow.g-back-mref U H A W E _
-            18 2 0 7 (Array.Array L.u64 928) y0 y3 l0 (λ x. x) (λ x. x) (as-is r7) (as-is (Rows'.mref-owed (Array.Array L.u64 928) y0 0 7 l0)) refl refl) (pre (Lifetime.g-forget U H A W E _
-            7 Row.dead refl) (pre (Lifetime.g-end U H A W E _ 8 refl) (pre (Relend.g-back-sl U H A W E S.row _ 20 3 1 8 y10 y11 l1 (λ x. x) (λ x. x) (as-is r27) (as-is (Relend.mslice-owed
-            S.row y10 1 8 l1)) refl refl) (pre (Lifetime.g-forget U H A W E _ 8 Row.dead refl) (pre (Lifetime.g-end U H A W E _ 9 refl) d33)))))))
+        d41 : Typed.Typed U H A C E (record { locals = List._++_ g44 t46; slots = z6 }) b31 Δ0 at41
+        d41 = pre (Typed.pass T59 T60 s56) (room 1 Cache′.mir (Local.room-whole U H A W (Declared.row Cache.the-type) Cache′.mir refl)) (pre (λ Ψ. Ψ) (Lifetime.g-end U H A W E _ 7 refl) (pre
+            (Typed.ask s58) (Reborrow.g-back-mref U H A W E _ 18 2 0 7 (Array.Array L.u64 928) y0 y3 l0 (λ x. x) (λ x. x) (as-is r7) (as-is (Rows'.mref-owed (Array.Array L.u64 928) y0 0 7
+            l0)) refl refl) (pre (λ Ψ. Ψ) (Lifetime.g-forget U H A W E _ 7 Row.dead refl) (pre (λ Ψ. Ψ) (Lifetime.g-end U H A W E _ 8 refl) (pre (Typed.both s61) (Relend.g-back-sl U H A W E
+            S.row _ 20 3 1 8 y10 y11 l1 (λ x. x) (λ x. x) (as-is r27) (as-is (Relend.mslice-owed S.row y10 1 8 l1)) refl refl) (pre (λ Ψ. Ψ) (Lifetime.g-forget U H A W E _ 8 Row.dead refl)
+            (pre (λ Ψ. Ψ) (Lifetime.g-end U H A W E _ 9 refl) d33)))))))
 
-        d42 : Typed.Typed U H A C E G58 b31 Δ0 at42
-        d42 = pre (Local.g-drop-sref U H A W E _ 21 9 (Array.Array L.u64 256) y4 (λ x. x) (as-is r5)) d41
+        d42 : Typed.Typed U H A C E (lives z6 (on 6 (Relend.mslice-owed L.u64 y7 3 10 l2) (on 3 (Relend.mslice-owed S.row y10 1 8 l1) (on 2 (Rows'.mref-owed (Array.Array L.u64 928) y0 0 7
+            l0) T58)))) b31 Δ0 at42
+        d42 = pre (Typed.pass T58 T59 s55) (Local.g-drop-sref U H A W E _ 21 9 (Array.Array L.u64 256) y4 (λ x. x) (as-is r5)) d41
 
-        d50 : Typed.Typed U H A C E G50 b37 Δ0 at50
-        d50 = seq (Relend.t-sl-relend U H A W E S.row C _ 3 19 1 8 y10 y11 l1 0 (λ x. x) (as-is r24) (gone y11) refl tt refl refl refl λ b o. tt) (seq (Relend.t-sl-aggregate U H A W E S.row
-            C (Relend.asMut S.row) _ 19 20 8 y11 y11 (λ x. x) (Scalar.oFld 3 (Y.field 1 ∷ []) (Y.tyInt Y.w64) 8 λ v. Shared.lenV (v .0)) (as-is (Relend.msptr S.row y11 8)) (gone (L.sl y11))
-            (Relend.reads-owed-len U H A W S.row y10 1 8 l1 8 refl, refl) refl refl λ b o k. tt) (pre (begin 9 _) (seq (Local.t-sc-share U H A W E C _ 7 21 9 (Array.Array L.u64 256) y4 (λ x.
-            x) (Whole.mem-arr U H A W L.u64 256) (gone y4) refl λ b o. tt) (pre (begin 10 _) (seq (Relend.t-sl-relend U H A W E L.u64 C _ 6 22 3 10 y7 y9 l2 0 (λ x. x) (as-is r16) (gone y9)
-            refl tt refl refl refl λ b o. tt) (seq (Relend.t-sl-aggregate U H A W E L.u64 C (Relend.asMut L.u64) _ 22 23 10 y9 y9 (λ x. x) (Scalar.oFld 6 (Y.field 1 ∷ []) (Y.tyInt Y.w64) 8 λ
-            v. Shared.lenV (v .0)) (as-is (Relend.msptr L.u64 y9 10)) (gone (L.sl y9)) (Relend.reads-owed-len U H A W L.u64 y7 3 10 l2 8 refl, refl) refl refl λ b o k. tt) (seq
-            (Plain.t-call-plain U H A W C 4 ps·3 r·3 (cl .6) (cl .7) "datasample_access::serve" (known .3) E (λ pos β. β) _
+        d50 : Typed.Typed U H A C E (record
+            { locals = List._++_ g34 t35; slots = Row.off ∷ l1 ∷ Row.lease (κs .1 .1 .0) (qs .1 .1 .0) ∷ l2 ∷ Row.off ∷ Row.off ∷ Row.off ∷ Row.alive ∷ Row.alive ∷ Row.off ∷ Row.off ∷ [] })
+            b37 Δ0 at50
+        d50 = seq (Typed.give s47) (Relend.t-sl-relend U H A W E S.row C _ 3 19 1 8 y10 y11 l1 0 (λ x. x) (as-is r24) (gone y11) refl tt refl refl refl λ b o. tt) (seq (Typed.ask s48)
+            (Relend.t-sl-aggregate U H A W E S.row C (Relend.asMut S.row) _ 19 20 8 y11 y11 (λ x. x) (Scalar.oFld 3 (Y.field 1 ∷ []) (Y.tyInt Y.w64) 8 λ v. Shared.lenV (v .0)) (as-is
+            (Relend.msptr S.row y11 8)) (gone (L.sl y11)) (Relend.reads-owed-len U H A W S.row y10 1 8 l1 8 refl, refl) refl refl λ b o k. tt) (pre (λ Ψ. Ψ) (begin 9 _) (seq (Typed.give s50)
+            (Local.t-sc-share U H A W E C _ 7 21 9 (Array.Array L.u64 256) y4 (λ x. x) (Whole.mem-arr U H A W L.u64 256) (gone y4) refl λ b o. tt) (pre (λ Ψ. Ψ) (begin 10 _) (seq (Typed.give
+            s52) (Relend.t-sl-relend U H A W E L.u64 C _ 6 22 3 10 y7 y9 l2 0 (λ x. x) (as-is r16) (gone y9) refl tt refl refl refl λ b o. tt) (seq (Typed.ask s53) (Relend.t-sl-aggregate U H
+            A W E L.u64 C (Relend.asMut L.u64) _ 22 23 10 y9 y9 (λ x. x) (Scalar.oFld 6 (Y.field 1 ∷ []) (Y.tyInt Y.w64) 8 λ v. Shared.lenV (v .0)) (as-is (Relend.msptr L.u64 y9 10)) (gone
+            (L.sl y9)) (Relend.reads-owed-len U H A W L.u64 y7 3 10 l2 8 refl, refl) refl refl λ b o k. tt) (seq (Typed.both s54) (Plain.t-call-plain U H A W C 4 ps·3 r·3 (cl .6) (cl .7)
+            "datasample_access::serve" (known .3) E (λ pos β. β) _
             (record { pos = 1; st = []; d = 0; at = λ x. x }, (record { pos = 18; ty = y3; ref = λ x. x }, (record { pos = 20; ty = y11; ref = λ x. x }, (record { pos = 21; ty = y4; ref = λ x. x }, (Num.vAt 10 λ x. x, (Bool.bAt 5 λ x. x, (record { pos = 23; ty = y9; ref = λ x. x }, tt)))))))
             11 (7 ∷ 8 ∷ 9 ∷ 10 ∷ []) (Call.sub-id U H A W _)
             ((copied (Declared.row Cache.the-type) refl (Copies.cStruct Cache.the-type Cache′.the-laws Cache′.the-copy .copy U H A W), refl), (as-is r4, Reads.reads-mref U H A W (Array.Array L.u64 928) y3 7, refl, (as-is r26, Mut.reads-mslice U H A W S.row y11 8, refl, (ShrRef.spares-sref U H A W (Array.Array L.u64 256) y4 9, Reads.reads-sref U H A W (Array.Array L.u64 256) y4 9, refl, ((reads-sc (Row.sInt Y.w64), refl), ((reads-sc Row.sBool, refl), (as-is (Mut.mslice L.u64 y9 10), Mut.reads-mslice U H A W L.u64 y9 10, refl, tt)))))))
             (gone Cache′.mir) (tt, (tt, (tt, (tt, tt)))) refl) d42)))))))
 
         d56 : Typed.Typed U H A C E G34 b40 Δ0 at56
-        d56 = seq (Scalar.t-use U H A W E C _ (Scalar.oFld 4 (Y.field 1 ∷ []) (Y.tyInt Y.w64) 8 Shared.lenV) 12 L.h64 (Y.tyInt Y.w64) (Row.valS (Row.sInt Y.w64)) (Row.sInt Y.w64 .of)
-            (Shared.reads-sslice-len U H A W L.u64 y6 2 8 refl, refl) (gone (Y.tyInt Y.w64)) (Scalar.holds-sc U H A W (Row.sInt Y.w64)) refl (λ u. refl) λ u. tt) (seq (Scalar.t-op2 U H A W E
-            C _ (Y.div Y.unsigned) (Scalar.oAt 12 (Y.tyInt Y.w64) (Row.valS (Row.sInt Y.w64))) (Scalar.oInt Y.w64 2) 10 L.h64 (Y.tyInt Y.w64) (Row.valS (Row.sInt Y.w64)) (Row.sInt Y.w64 .of)
-            (reads-sc (Row.sInt Y.w64), refl) tt (gone (Y.tyInt Y.w64)) (Scalar.holds-sc U H A W (Row.sInt Y.w64)) refl (λ u. refl) λ u. tt) (pre (room 12 (Y.tyInt Y.w64) (room-sc (Row.sInt
-            Y.w64))) (pre (begin 7 _) (seq (Reborrow.t-mref-relend U H A W E C _ 2 18 0 7 (Array.Array L.u64 928) y12 y0 y3 l0 (λ x. x) (as-is r2) (gone y3) refl tt refl refl λ b o. tt) (pre
-            (begin 8 _) d50)))))
+        d56 = seq (Typed.pass T33 T45 s41) (Scalar.t-use U H A W E C _ (Scalar.oFld 4 (Y.field 1 ∷ []) (Y.tyInt Y.w64) 8 Shared.lenV) 12 L.h64 (Y.tyInt Y.w64) (Row.valS (Row.sInt Y.w64))
+            (Row.sInt Y.w64 .of) (Shared.reads-sslice-len U H A W L.u64 y6 2 8 refl, refl) (gone (Y.tyInt Y.w64)) (Scalar.holds-sc U H A W (Row.sInt Y.w64)) refl (λ u. refl) λ u. tt) (seq
+            (Typed.ask s42) (Scalar.t-op2 U H A W E C _ (Y.div Y.unsigned) (Scalar.oAt 12 (Y.tyInt Y.w64) (Row.valS (Row.sInt Y.w64))) (Scalar.oInt Y.w64 2) 10 L.h64 (Y.tyInt Y.w64)
+            (Row.valS (Row.sInt Y.w64)) (Row.sInt Y.w64 .of) (reads-sc (Row.sInt Y.w64), refl) tt (gone (Y.tyInt Y.w64)) (Scalar.holds-sc U H A W (Row.sInt Y.w64)) refl (λ u. refl) λ u. tt)
+            (pre (Typed.pass T46 T47 s43) (room 12 (Y.tyInt Y.w64) (room-sc (Row.sInt Y.w64))) (pre (λ Ψ. Ψ) (begin 7 _) (seq (Typed.give s45) (Reborrow.t-mref-relend U H A W E C _ 2 18 0 7
+            (Array.Array L.u64 928) y12 y0 y3 l0 (λ x. x) (as-is r2) (gone y3) refl tt refl refl λ b o. tt) (pre (λ Ψ. Ψ) (begin 8 _) d50)))))
 
-        d64 : Typed.Typed U H A C E (lives z2 (on 2 (Reshare.mref-owedS (Array.Array L.u64 928) y0 0 5 l0) T28)) b42 Δ0 at64
-        d64 = pre (Lifetime.g-end U H A W E _ 5 refl) (pre (Reshare.g-back-mref-shr U H A W E _ 2 0 5 (Array.Array L.u64 928) y0 l0 (λ x. x) (as-is (Reshare.mref-owedS (Array.Array L.u64
-            928) y0 0 5 l0)) refl refl) (pre (Lifetime.g-forget U H A W E _ 5 Row.dead refl) (pre (Lifetime.g-end U H A W E _ 6 refl) (pre (Local.g-back-sc U H A W E _ 17 7 6 (Array.Array
-            L.u64 256) y1 r35 (λ x. x) (λ x. x) (λ x. x) (as-is r6) (as-is r32) (Whole.arr-mem U H A W L.u64 256 tt) refl) (pre (Lifetime.g-forget U H A W E _ 6 Row.dead refl) (seq
-            (Scalar.t-op2 U H A W E C _ Y.ne (Scalar.oAt 9 (Y.tyInt Y.w64) (Row.valS (Row.sInt Y.w64))) (Scalar.oInt Y.w64 0) 13 L.hbool Y.tyBool (Row.valS Row.sBool) (Row.sBool .of)
-            (reads-sc (Row.sInt Y.w64), refl) tt (gone Y.tyBool) (Scalar.holds-sc U H A W Row.sBool) refl (λ u. refl) λ u. tt) (Typed.t-seq U H A W C E _ _ b19 b40 Δ0 at19 at56 d19
-            d56)))))))
+        d64 : Typed.Typed U H A C E (on 16 r11 G27) b42 Δ0 at64
+        d64 = pre (λ Ψ. Ψ) (Lifetime.g-end U H A W E _ 5 refl) (pre (Typed.pass T28 T30 s27) (Reshare.g-back-mref-shr U H A W E _ 2 0 5 (Array.Array L.u64 928) y0 l0 (λ x. x) (as-is
+            (Reshare.mref-owedS (Array.Array L.u64 928) y0 0 5 l0)) refl refl) (pre (λ Ψ. Ψ) (Lifetime.g-forget U H A W E _ 5 Row.dead refl) (pre (λ Ψ. Ψ) (Lifetime.g-end U H A W E _ 6 refl)
+            (pre (Typed.ask s30) (Local.g-back-sc U H A W E _ 17 7 6 (Array.Array L.u64 256) y1 r35 (λ x. x) (λ x. x) (λ x. x) (as-is r6) (as-is r32) (Whole.arr-mem U H A W L.u64 256 tt)
+            refl) (pre (λ Ψ. Ψ) (Lifetime.g-forget U H A W E _ 6 Row.dead refl) (seq (Typed.ask s32) (Scalar.t-op2 U H A W E C _ Y.ne (Scalar.oAt 9 (Y.tyInt Y.w64) (Row.valS (Row.sInt
+            Y.w64))) (Scalar.oInt Y.w64 0) 13 L.hbool Y.tyBool (Row.valS Row.sBool) (Row.sBool .of) (reads-sc (Row.sInt Y.w64), refl) tt (gone Y.tyBool) (Scalar.holds-sc U H A W Row.sBool)
+            refl (λ u. refl) λ u. tt) (Typed.t-seq U H A W C E _ _ b19 b40 Δ0 at19 at56 d19 d56)))))))
 
-        d65 : Typed.Typed U H A C E (lives z2 (on 16 r3 (on 2 (Reshare.mref-owedS (Array.Array L.u64 928) y0 0 5 l0) T28))) b42 Δ0 at65
-        d65 = pre (Local.g-drop-sref U H A W E _ 16 5 (Array.Array L.u64 928) y2 (λ x. x) (as-is r3)) d64
+        d65 : Typed.Typed U H A C E G27 b42 Δ0 at65
+        d65 = pre (Typed.pass T27 T28 s25) (Local.g-drop-sref U H A W E _ 16 5 (Array.Array L.u64 928) y2 (λ x. x) (as-is r3)) d64
 
         d73 : Typed.Typed U H A C E (on 15 r17 G18) b45 Δ0 at73
-        d73 = pre (Lifetime.g-end U H A W E _ 4 refl) (pre (Reshare'.g-back-sl-shr U H A W E L.u64 _ 6 3 4 y7 l2 (λ x. x) (as-is (Reshare'.mslice-owedS L.u64 y7 3 4 l2)) refl refl) (pre
-            (Lifetime.g-forget U H A W E _ 4 Row.dead refl) (pre (begin 5 _) (seq (Reshare.t-mref-reshare U H A W E C _ 2 16 0 5 (Array.Array L.u64 928) y12 y0 y2 l0 (λ x. x) (as-is r2)
-            (gone y2) refl tt refl refl λ b o. tt) (pre (begin 6 _) (seq (Local.t-sc-borrow U H A W E C _ 7 17 6 (Array.Array L.u64 256) y1 (λ x. x) (Whole.mem-arr U H A W L.u64 256) (gone
-            y1) refl λ b o. tt) (seq (Plain.t-call-plain U H A W C 3 ps·2 r·2 (cl .4) (cl .5) "access::refusal" (known .2) E (λ pos β. β) _
+        d73 = pre (λ Ψ. Ψ) (Lifetime.g-end U H A W E _ 4 refl) (pre (Typed.pass T19 T21 s18) (Reshare'.g-back-sl-shr U H A W E L.u64 _ 6 3 4 y7 l2 (λ x. x) (as-is (Reshare'.mslice-owedS
+            L.u64 y7 3 4 l2)) refl refl) (pre (λ Ψ. Ψ) (Lifetime.g-forget U H A W E _ 4 Row.dead refl) (pre (λ Ψ. Ψ) (begin 5 _) (seq (Typed.give s21) (Reshare.t-mref-reshare U H A W E C _ 2
+            16 0 5 (Array.Array L.u64 928) y12 y0 y2 l0 (λ x. x) (as-is r2) (gone y2) refl tt refl refl λ b o. tt) (pre (λ Ψ. Ψ) (begin 6 _) (seq (Typed.give s23) (Local.t-sc-borrow U H A W
+            E C _ 7 17 6 (Array.Array L.u64 256) y1 (λ x. x) (Whole.mem-arr U H A W L.u64 256) (gone y1) refl λ b o. tt) (seq (Typed.both s24) (Plain.t-call-plain U H A W C 3 ps·2 r·2 (cl
+            .4) (cl .5) "access::refusal" (known .2) E (λ pos β. β) _
             (record { pos = 1; st = []; d = 0; at = λ x. x }, (record { pos = 16; ty = y2; ref = λ x. x }, (record { pos = 4; ty = y6; ref = λ x. x }, (Num.vAt 8 λ x. x, (record { pos = 17; ty = y1; ref = λ x. x }, tt)))))
             9 (5 ∷ 2 ∷ 6 ∷ []) (Call.sub-id U H A W _)
             ((copied (Declared.row Cache.the-type) refl (Copies.cStruct Cache.the-type Cache′.the-laws Cache′.the-copy .copy U H A W), refl), (ShrRef.spares-sref U H A W (Array.Array L.u64 928) y2 5, Reads.reads-sref U H A W (Array.Array L.u64 928) y2 5, refl, (ShrSlice.spares-sslice U H A W L.u64 y6 2, Shared.reads-sslice U H A W L.u64 y6 2, refl, ((reads-sc (Row.sInt Y.w64), refl), (as-is (Rows'.mref (Array.Array L.u64 256) y1 6), Reads.reads-mref U H A W (Array.Array L.u64 256) y1 6, refl, tt)))))
             (gone (Y.tyInt Y.w64)) (tt, (tt, (tt, tt))) refl) d65)))))))
 
         d74 : Typed.Typed U H A C E G18 b45 Δ0 at74
-        d74 = pre (room 15 y5 (Shared.room-sslice U H A W L.u64 y8 4)) d73
+        d74 = pre (Typed.pass T18 T19 s16) (room 15 y5 (Shared.room-sslice U H A W L.u64 y8 4)) d73
 
         d80 : Typed.Typed U H A C E G0 b49 Δ0 at80
-        d80 = seq (Repeat.t-repeat U H A W E C L.u64 (Plain'.uint-lawful U H A W Y.w64) (Copies.cRf (Referent.fInt Y.w64) .copy U H A W) (Plain'.uint-makes U H A W Y.w64) 256 _ 7
-            (Scalar.oInt Y.w64 0) (λ m. 0) (gone y13) tt refl λ m wa. (refl, Dec'.lit< tt)) (pre (AtSlots.g-as-by U H A W E (λ ρ. Unit) _ 7 r35 (λ x. x) (Own.told-none U H A ((lives z0 T13)
-            .slots)) λ ρ told. Repeat.whole-arr U H A W L.u64 256 tt ρ) (pre (begin 4 _) (seq (Reshare'.t-sl-reshare U H A W E L.u64 C _ 6 14 3 4 y7 y8 l2 0 (λ x. x) (as-is r16) (gone y8)
-            refl tt refl refl refl λ b o. tt) (seq (Relend.t-sl-aggregate U H A W E L.u64 C (Relend.asShr L.u64) _ 14 15 4 y8 y8 (λ x. x) (Scalar.oFld 6 (Y.field 1 ∷ []) (Y.tyInt Y.w64) 8 λ
-            v. Shared.lenV (v .0)) (as-is r19) (gone y5) (Reshare'.reads-owedS-len U H A W L.u64 y7 3 4 l2 8 refl, refl) refl refl λ b o k. tt) (seq (Plain.t-call-plain U H A W C 1 ps·1 r·1
-            (cl .2) (cl .3) "infos::places" (known .1) E (λ pos β. β) _ (record { pos = 15; ty = y8; ref = λ x. x }, tt) 8 (4 ∷ []) (Call.sub-id U H A W _)
+        d80 = seq (Typed.pass T0 T13 s10) (Repeat.t-repeat U H A W E C L.u64 (Plain'.uint-lawful U H A W Y.w64) (Copies.cRf (Referent.fInt Y.w64) .copy U H A W) (Plain'.uint-makes U H A W
+            Y.w64) 256 _ 7 (Scalar.oInt Y.w64 0) (λ m. 0) (gone y13) tt refl λ m wa. (refl, Dec'.lit< tt)) (pre (Typed.pass T13 T14 s11) (AtSlots.g-as-by U H A W E (λ ρ. Unit) _ 7 r35 (λ x.
+            x) (Own.told-none U H A ((lives z0 T13) .slots)) λ ρ told. Repeat.whole-arr U H A W L.u64 256 tt ρ) (pre (λ Ψ. Ψ) (begin 4 _) (seq (Typed.give s13) (Reshare'.t-sl-reshare U H A W
+            E L.u64 C _ 6 14 3 4 y7 y8 l2 0 (λ x. x) (as-is r16) (gone y8) refl tt refl refl refl λ b o. tt) (seq (Typed.ask s14) (Relend.t-sl-aggregate U H A W E L.u64 C (Relend.asShr
+            L.u64) _ 14 15 4 y8 y8 (λ x. x) (Scalar.oFld 6 (Y.field 1 ∷ []) (Y.tyInt Y.w64) 8 λ v. Shared.lenV (v .0)) (as-is r19) (gone y5)
+            (Reshare'.reads-owedS-len U H A W L.u64 y7 3 4 l2 8 refl, refl) refl refl λ b o k. tt) (seq (Typed.both s15) (Plain.t-call-plain U H A W C 1 ps·1 r·1 (cl .2) (cl .3)
+            "infos::places" (known .1) E (λ pos β. β) _ (record { pos = 15; ty = y8; ref = λ x. x }, tt) 8 (4 ∷ []) (Call.sub-id U H A W _)
             (ShrSlice.spares-sslice U H A W L.u64 y8 4, Shared.reads-sslice U H A W L.u64 y8 4, refl, tt) (gone (Y.tyInt Y.w64)) (tt, tt) refl) d74)))))
 
         d85 : Typed.Typed U H A C E G0 b52 Δ0 at85
-        d85 = pre (Know.g-shs-known U H A W (Referent.fInt Y.w64) E _ 4 2 y6 (Row.lease (κs .1 .1 .0) (qs .1 .1 .0)) 0 (λ x. x) record { fits = Dec'.lit< tt } (as-is r15) refl tt) (pre
-            (Know.g-sl-known U H A W (Referent.fInt Y.w64) E _ 6 3 y7 l2 0 (λ x. x) record { fits = Dec'.lit< tt } (as-is r16) refl tt) (seq (Scalar.t-use U H A W E C _ (Scalar.oFld 3
-            (Y.field 1 ∷ []) (Y.tyInt Y.w64) 8 Shared.lenV) 12 L.h64 (Y.tyInt Y.w64) (Row.valS (Row.sInt Y.w64)) (Row.sInt Y.w64 .of) (Mut.reads-mslice-len U H A W S.row y10 1 8 refl, refl)
-            (gone (Y.tyInt Y.w64)) (Scalar.holds-sc U H A W (Row.sInt Y.w64)) refl (λ u. refl) λ u. tt) (seq (Scalar.t-op2 U H A W E C _ Y.ne (Scalar.oAt 12 (Y.tyInt Y.w64) (Row.valS
-            (Row.sInt Y.w64))) (Scalar.oInt Y.w64 256) 13 L.hbool Y.tyBool (Row.valS Row.sBool) (Row.sBool .of) (reads-sc (Row.sInt Y.w64), refl) tt (gone Y.tyBool) (Scalar.holds-sc U H A W
-            Row.sBool) refl (λ u. refl) λ u. tt) (Typed.t-seq U H A W C E _ _ b6 b49 Δ0 at8 at80 d8 d80))))
+        d85 = pre (Typed.give s0) (Know.g-shs-known U H A W (Referent.fInt Y.w64) E _ 4 2 y6 (Row.lease (κs .1 .1 .0) (qs .1 .1 .0)) 0 (λ x. x) record { fits = Dec'.lit< tt } (as-is r15)
+            refl tt) (pre (Typed.give s1) (Know.g-sl-known U H A W (Referent.fInt Y.w64) E _ 6 3 y7 l2 0 (λ x. x) record { fits = Dec'.lit< tt } (as-is r16) refl tt) (seq (Typed.pass T0 T4
+            s2) (Scalar.t-use U H A W E C _ (Scalar.oFld 3 (Y.field 1 ∷ []) (Y.tyInt Y.w64) 8 Shared.lenV) 12 L.h64 (Y.tyInt Y.w64) (Row.valS (Row.sInt Y.w64)) (Row.sInt Y.w64 .of)
+            (Mut.reads-mslice-len U H A W S.row y10 1 8 refl, refl) (gone (Y.tyInt Y.w64)) (Scalar.holds-sc U H A W (Row.sInt Y.w64)) refl (λ u. refl) λ u. tt) (seq (Typed.ask s3)
+            (Scalar.t-op2 U H A W E C _ Y.ne (Scalar.oAt 12 (Y.tyInt Y.w64) (Row.valS (Row.sInt Y.w64))) (Scalar.oInt Y.w64 256) 13 L.hbool Y.tyBool (Row.valS Row.sBool) (Row.sBool .of)
+            (reads-sc (Row.sInt Y.w64), refl) tt (gone Y.tyBool) (Scalar.holds-sc U H A W Row.sBool) refl (λ u. refl) λ u. tt) (Typed.t-seq U H A W C E _ _ b6 b49 Δ0 at8 at80 d8 d80))))
 
         pub typed : Typed.Typed U H A C E (Function.Γin 4 ps r xs m κs qs) b52 (Function.Δret 4 ps r xs m κs qs) Φ
         typed = d85

@@ -77,6 +77,12 @@ y0 = Y.tyRef (Y.named 1) Y.imm (Y.tyArray (Y.tyInt Y.w64) 928)
 abbrev r0 : Row.Row
 r0 = Rows'.mref-owed (Array'.Array L.u64 32) y2 4 6 Row.off
 
+abbrev r1 : Row.Row
+r1 = Rows'.sref (Array'.Array L.u64 928) y0 1
+
+abbrev r2 : Row.Row
+r2 = Rows'.sref (Array'.Array L.u64 256) y1 2
+
 abbrev r3 : Row.Row
 r3 = Rows'.mref (Array'.Array L.u64 32) y2 4
 
@@ -89,11 +95,20 @@ r5 = Relend.mslice-owed L.u64 y4 3 5 Row.off
 abbrev r7 : Row.Row
 r7 = Mut.mslice L.u64 y4 3
 
+abbrev r8 : Row.Row
+r8 = Rows'.any-gone (L.sl y5)
+
 abbrev r9 : Row.Row
 r9 = Relend.msptr L.u64 y5 5
 
 abbrev r10 : Row.Row
 r10 = Mut.mslice L.u64 y5 5
+
+abbrev r11 : Row.Row
+r11 = Rows'.sslice S.row y6 0
+
+abbrev r12 : Row.Row
+r12 = Rows'.any-gone y5
 
 abbrev r13 : Row.Row
 r13 = Rows'.whole (Declared.row Ranking.the-type)
@@ -189,11 +204,40 @@ abbrev pub Claims : Type 1
 Claims = Kinds.In 1 ps·0 × Kinds.Out 1 ps·0 r·0 × Kinds.In 1 ps·1 × Kinds.Out 1 ps·1 r·1 × Kinds.In 3 ps·2 × Kinds.Out 3 ps·2 r·2
 
 abbrev t0 : List.List Row.Entry
-t0 = (0, L.gunit) ∷ (1, (Rows'.sslice S.row y6 0)) ∷ (2, (Rows'.sref (Array'.Array L.u64 928) y0 1)) ∷ (3, (Rows'.sref (Array'.Array L.u64 256) y1 2)) ∷ (4, L.h64) ∷ (5, r13) ∷ (6, r7) ∷
-    (7, r3) ∷ (8, L.g64) ∷ (9, L.g64) ∷ (10, r15) ∷ (11, L.gbool) ∷ (12, L.gunit) ∷ (13, L.g64) ∷ (14, L.g64) ∷ (15, (Rows'.any-gone y5)) ∷ []
+t0 = (0, L.gunit) ∷ (1, r11) ∷ (2, r1) ∷ (3, r2) ∷ (4, L.h64) ∷ (5, r13) ∷ (6, r7) ∷ (7, r3) ∷ (8, L.g64) ∷ (9, L.g64) ∷ (10, r15) ∷ (11, L.gbool) ∷ (12, L.gunit) ∷ (13, L.g64) ∷ (14, L.g64)
+    ∷ (15, r12) ∷ []
 
 abbrev t1 : List.List Row.Entry
-t1 = (16, (Rows'.any-gone (L.sl y5))) ∷ (17, (Rows'.any-gone y3)) ∷ []
+t1 = (16, r8) ∷ (17, (Rows'.any-gone y3)) ∷ []
+
+abbrev t9 : List.List Row.Entry
+t9 = (0, L.gunit) ∷ (1, r11) ∷ (2, r1) ∷ (3, r2) ∷ (4, L.h64) ∷ (5, r13) ∷ (6, r7) ∷ (7, r3) ∷ (8, L.h64) ∷ (9, L.h64) ∷ (10, S.here) ∷ (11, L.gbool) ∷ (12, L.gunit) ∷ (13, L.h64) ∷
+    (14, L.g64) ∷ (15, r12) ∷ []
+
+abbrev t12 : List.List Row.Entry
+t12 = (0, L.gunit) ∷ (1, r11) ∷ (2, r1) ∷ (3, r2) ∷ (4, L.h64) ∷ (5, r13) ∷ (6, r5) ∷ (7, r3) ∷ (8, L.h64) ∷ (9, L.h64) ∷ (10, S.here) ∷ (11, L.gbool) ∷ (12, L.gunit) ∷ (13, L.g64) ∷
+    (14, L.h64) ∷ (15, r9) ∷ []
+
+abbrev t15 : List.List Row.Entry
+t15 = (0, L.gunit) ∷ (1, r11) ∷ (2, r1) ∷ (3, r2) ∷ (4, L.h64) ∷ (5, r13) ∷ (6, r5) ∷ (7, r0) ∷ (8, L.h64) ∷ (9, L.h64) ∷ (10, S.here) ∷ (11, L.gbool) ∷ (12, L.gunit) ∷ (13, L.g64) ∷
+    (14, L.h64) ∷ (15, r12) ∷ []
+
+abbrev t16 : List.List Row.Entry
+t16 = (16, r10) ∷ (17, Rows'.mref (Array'.Array L.u64 32) y3 6) ∷ []
+
+abbrev t18 : List.List Row.Entry
+t18 = (16, Mut.msleft L.u64 y5) ∷ (17, r4) ∷ []
+
+abbrev t19 : List.List Row.Entry
+t19 = (0, L.gunit) ∷ (1, r11) ∷ (2, r1) ∷ (3, r2) ∷ (4, L.h64) ∷ (5, r13) ∷ (6, r5) ∷ (7, r0) ∷ (8, L.h64) ∷ (9, L.h64) ∷ (10, r15) ∷ (11, L.gbool) ∷ (12, L.hunit) ∷ (13, L.g64) ∷
+    (14, L.h64) ∷ (15, r12) ∷ []
+
+abbrev t22 : List.List Row.Entry
+t22 = (0, L.gunit) ∷ (1, r11) ∷ (2, r1) ∷ (3, r2) ∷ (4, L.h64) ∷ (5, r13) ∷ (6, r7) ∷ (7, r0) ∷ (8, L.h64) ∷ (9, L.h64) ∷ (10, r15) ∷ (11, L.gbool) ∷ (12, L.gunit) ∷ (13, L.g64) ∷
+    (14, L.g64) ∷ (15, r12) ∷ []
+
+abbrev t23 : List.List Row.Entry
+t23 = (16, r8) ∷ (17, r4) ∷ []
 
 abbrev on : Nat.ℕ → Row.Row → Row.Cx → Row.Cx
 on n r Γ = record { locals = Row.setRow n (n, r) (Γ .locals); slots = Γ .slots }
@@ -226,43 +270,43 @@ abbrev T11 : Row.Cx
 T11 = on 10 S.here T10
 
 abbrev T12 : Row.Cx
-T12 = on 13 L.h64 T11
+T12 = record { locals = List._++_ t9 t1; slots = [] }
 
 abbrev T13 : Row.Cx
 T13 = on 14 L.h64 T12
 
 abbrev T14 : Row.Cx
-T14 = on 14 L.h64 T11
+T14 = on 13 L.g64 T13
 
 abbrev T16 : Row.Cx
-T16 = on 15 r9 (on 6 r5 T14)
+T16 = record { locals = List._++_ t12 t1; slots = [] }
 
 abbrev T17 : Row.Cx
-T17 = on 16 r10 (on 6 r5 T14)
+T17 = on 16 r10 (on 15 r12 T16)
 
 abbrev T19 : Row.Cx
-T19 = on 17 (Rows'.mref (Array'.Array L.u64 32) y3 6) (on 7 r0 T17)
+T19 = record { locals = List._++_ t15 t16; slots = [] }
 
 abbrev T20 : Row.Cx
 T20 = on 17 r4 (on 16 (Mut.msleft L.u64 y5) (on 12 L.hunit T19))
 
 abbrev T21 : Row.Cx
-T21 = on 10 r15 T20
+T21 = record { locals = List._++_ t19 t18; slots = [] }
 
 abbrev T22 : Row.Cx
-T22 = on 17 r4 (on 16 (Mut.msleft L.u64 y5) (on 10 r15 T19))
+T22 = on 12 L.gunit T21
 
 abbrev T23 : Row.Cx
 T23 = on 14 L.g64 T22
 
 abbrev T25 : Row.Cx
-T25 = on 17 r4 (on 7 r0 T10)
+T25 = record { locals = List._++_ t22 t23; slots = [] }
 
 abbrev T33 : Row.Cx
 T33 = on 0 L.hunit T4
 
 abbrev T34 : Row.Cx
-T34 = on 4 L.h64 T1
+T34 = on 5 r14 (on 0 L.hunit T0)
 
 abbrev O0 : Typed.Outs
 O0 = record { next = Option.none; exits = []; returns = Option.some T1 }
@@ -444,6 +488,9 @@ module _ (cl : Claims) where
         abbrev z0 : List.List Row.Life
         z0 = Row.lease (κs .0) (qs .0) ∷ Row.lease (κs .1 .0) (qs .1 .0) ∷ Row.lease (κs .1 .1 .0) (qs .1 .1 .0) ∷ l0 ∷ l1 ∷ Row.off ∷ Row.off ∷ []
 
+        abbrev z2 : List.List Row.Life
+        z2 = Row.lease (κs .0) (qs .0) ∷ Row.lease (κs .1 .0) (qs .1 .0) ∷ Row.lease (κs .1 .1 .0) (qs .1 .1 .0) ∷ Row.off ∷ Row.off ∷ Row.alive ∷ Row.alive ∷ []
+
         abbrev G3 : Row.Cx
         G3 = lives z0 T3
 
@@ -452,10 +499,6 @@ module _ (cl : Claims) where
 
         abbrev G5 : Row.Cx
         G5 = lives z0 T5
-
-        abbrev G20 : Row.Cx
-        G20 = lives (Row.lease (κs .0) (qs .0) ∷ Row.lease (κs .1 .0) (qs .1 .0) ∷ Row.lease (κs .1 .1 .0) (qs .1 .1 .0) ∷ Row.off ∷ Row.off ∷ Row.alive ∷ Row.alive ∷ []) (on 17 r4 (on 16
-            (Mut.msleft L.u64 y5) (on 12 L.hunit (on 7 (Rows'.mref-owed (Array'.Array L.u64 32) y2 4 6 l1) (on 6 (Relend.mslice-owed L.u64 y4 3 5 l0) T14)))))
 
         abbrev Δ0 : Typed.Outs
         Δ0 = record { next = Option.none; exits = []; returns = Option.some (lives z0 T1) }
@@ -477,13 +520,13 @@ module _ (cl : Claims) where
           abbrev E : Wp.Env U H
           E = Frame.EnvOf U H (Kinds.tyR r ∷ (Enter.tysP ps xs)) bs
 
-          pre : {Γ Γ₁ : Row.Cx} {b : Y.Body} {Δ : Typed.Outs} {φ : Typed.Tf Γ Γ₁} {Φ : Typed.TF Γ₁ Δ} → Typed.Ghost U H A E Γ Γ₁ φ → Typed.Typed U H A C E Γ₁ b Δ Φ → Typed.Typed U H A C E Γ
+          pre : {Γ Γ₁ : Row.Cx} {b : Y.Body} {Δ : Typed.Outs} {Φ : Typed.TF Γ₁ Δ} (φ : Typed.Tf Γ Γ₁) → Typed.Ghost U H A E Γ Γ₁ φ → Typed.Typed U H A C E Γ₁ b Δ Φ → Typed.Typed U H A C E Γ
               b Δ (λ Ψ. φ (Φ Ψ))
-          pre = Typed.g-pre U H A W C E _ _ _ _ _ _
+          pre φ = Typed.g-pre U H A W C E _ _ _ _ φ _
 
-          seq : {Γ Γ₁ : Row.Cx} {a b : Y.Body} {Δ : Typed.Outs} {φ : Typed.Tf Γ Γ₁} {Φ : Typed.TF Γ₁ Δ} → Typed.Stmt U H A C E Γ a Γ₁ φ → Typed.Typed U H A C E Γ₁ b Δ Φ → Typed.Typed U H A C
+          seq : {Γ Γ₁ : Row.Cx} {a b : Y.Body} {Δ : Typed.Outs} {Φ : Typed.TF Γ₁ Δ} (φ : Typed.Tf Γ Γ₁) → Typed.Stmt U H A C E Γ a Γ₁ φ → Typed.Typed U H A C E Γ₁ b Δ Φ → Typed.Typed U H A C
               E Γ (Y.seq a b) Δ (λ Ψ. φ (Φ Ψ))
-          seq = Typed.s-seq U H A W C E _ _ _ _ _ _ _
+          seq φ = Typed.s-seq U H A W C E _ _ _ _ _ φ _
 
           begin : {Γ : Row.Cx} (α : Nat.ℕ) → Row.Fresh α (Γ .locals) → Typed.Ghost U H A E Γ (Lifetime.Begun Γ α) (Typed.pass Γ (Lifetime.Begun Γ α) (λ u. u))
           begin = Lifetime.g-begin U H A W E _
@@ -501,61 +544,64 @@ module _ (cl : Claims) where
           reads-sc = Scalar.reads-sc U H A W
 
           d1 : Typed.Typed U H A C E G5 b2 Δ4 at1
-          d1 = pre (Scalar.g-room U H A W E _ 11 Y.tyBool (room-sc Row.sBool)) (Typed.t-skip U H A W C E Δ4 tt)
+          d1 = pre (Typed.pass T5 T3 s3) (Scalar.g-room U H A W E _ 11 Y.tyBool (room-sc Row.sBool)) (Typed.t-skip U H A W C E Δ4 tt)
 
           d4 : Typed.Typed U H A C E G5 b3 Δ4 at4
-          d4 = pre (Scalar.g-room U H A W E _ 5 Ranking′.mir (Local.room-whole U H A W (Declared.row Ranking.the-type) Ranking′.mir refl)) (pre (Scalar.g-room U H A W E _ 11 Y.tyBool
-              (room-sc Row.sBool)) (Typed.t-exit U H A W C E 1 Δ4 tt))
+          d4 = pre (Typed.pass T5 T8 s4) (Scalar.g-room U H A W E _ 5 Ranking′.mir (Local.room-whole U H A W (Declared.row Ranking.the-type) Ranking′.mir refl)) (pre (Typed.pass T8 T4 s5)
+              (Scalar.g-room U H A W E _ 11 Y.tyBool (room-sc Row.sBool)) (Typed.t-exit U H A W C E 1 Δ4 tt))
 
           d5 : Typed.Typed U H A C E G5 b4 Δ4 at5
           d5 = Scalar.t-cond U H A W E C _ 11 (λ x. x) b2 b3 Δ4 at1 at4 (reads-sc Row.sBool) refl d1 d4
 
-          d13 : Typed.Typed U H A C E (on 14 L.g64 (on 12 L.gunit (on 10 r15 G20))) b13 Δ3 at13
-          d13 = pre (Lifetime.g-end U H A W E _ 5 refl) (pre (Relend.g-back-sl U H A W E L.u64 _ 16 6 3 5 y4 y5 l0 (λ x. x) (λ x. x) (as-is (Mut.msleft L.u64 y5)) (as-is (Relend.mslice-owed
-              L.u64 y4 3 5 l0)) refl refl) (pre (Know.g-sl-known U H A W (Referent.fInt Y.w64) E _ 6 3 y4 l0 0 (λ x. x) record { fits = Dec'.lit< tt } (as-is r7) refl tt) (pre
-              (Lifetime.g-forget U H A W E _ 5 Row.dead refl) (pre (Lifetime.g-end U H A W E _ 6 refl) (pre (Reborrow.g-back-mref U H A W E _ 17 7 4 6 (Array'.Array L.u64 32) y2 y3 l1 (λ x.
-              x) (λ x. x) (as-is r4) (as-is (Rows'.mref-owed (Array'.Array L.u64 32) y2 4 6 l1)) refl refl) (pre (Lifetime.g-forget U H A W E _ 6 Row.dead refl) (Typed.s-typed U H A W C E _
-              b13 Δ3 (λ Ψ. Typed.ask s27 (Typed.pass T10 T3 s28 Ψ)) tt (Typed.g-post U H A W C E _ _ _ b13 (Typed.ask s27) (Typed.pass T10 T3 s28) (Scalar.t-op2 U H A W E C _ (Y.add
-              Y.unsigned) (Scalar.oAt 8 (Y.tyInt Y.w64) (Row.valS (Row.sInt Y.w64))) (Scalar.oInt Y.w64 1) 8 L.h64 (Y.tyInt Y.w64) (Row.valS (Row.sInt Y.w64)) (Row.sInt Y.w64 .of)
-              (reads-sc (Row.sInt Y.w64), refl) tt (room-sc (Row.sInt Y.w64)) (Scalar.holds-sc U H A W (Row.sInt Y.w64)) refl (λ u. refl) λ u. tt) (Scalar.g-room U H A W E _ 9 (Y.tyInt
-              Y.w64) (room-sc (Row.sInt Y.w64)))))))))))
+          d13 : Typed.Typed U H A C E (lives z2 (on 16 (Mut.msleft L.u64 y5) (on 7 (Rows'.mref-owed (Array'.Array L.u64 32) y2 4 6 l1) (on 6 (Relend.mslice-owed L.u64 y4 3 5 l0) T25)))) b13
+              Δ3 at13
+          d13 = pre (λ Ψ. Ψ) (Lifetime.g-end U H A W E _ 5 refl) (pre (Typed.both s21) (Relend.g-back-sl U H A W E L.u64 _ 16 6 3 5 y4 y5 l0 (λ x. x) (λ x. x) (as-is (Mut.msleft L.u64 y5))
+              (as-is (Relend.mslice-owed L.u64 y4 3 5 l0)) refl refl) (pre (Typed.give s22) (Know.g-sl-known U H A W (Referent.fInt Y.w64) E _ 6 3 y4 l0 0 (λ x. x) record
+              { fits = Dec'.lit< tt } (as-is r7) refl tt) (pre (λ Ψ. Ψ) (Lifetime.g-forget U H A W E _ 5 Row.dead refl) (pre (λ Ψ. Ψ) (Lifetime.g-end U H A W E _ 6 refl) (pre (Typed.ask s25)
+              (Reborrow.g-back-mref U H A W E _ 17 7 4 6 (Array'.Array L.u64 32) y2 y3 l1 (λ x. x) (λ x. x) (as-is r4) (as-is (Rows'.mref-owed (Array'.Array L.u64 32) y2 4 6 l1)) refl refl)
+              (pre (λ Ψ. Ψ) (Lifetime.g-forget U H A W E _ 6 Row.dead refl) (Typed.s-typed U H A W C E _ b13 Δ3 (λ Ψ. Typed.ask s27 (Typed.pass T10 T3 s28 Ψ)) tt (Typed.g-post U H A W C E _
+              _ _ b13 (Typed.ask s27) (Typed.pass T10 T3 s28) (Scalar.t-op2 U H A W E C _ (Y.add Y.unsigned) (Scalar.oAt 8 (Y.tyInt Y.w64) (Row.valS (Row.sInt Y.w64))) (Scalar.oInt Y.w64 1)
+              8 L.h64 (Y.tyInt Y.w64) (Row.valS (Row.sInt Y.w64)) (Row.sInt Y.w64 .of) (reads-sc (Row.sInt Y.w64), refl) tt (room-sc (Row.sInt Y.w64)) (Scalar.holds-sc U H A W (Row.sInt
+              Y.w64)) refl (λ u. refl) λ u. tt) (Scalar.g-room U H A W E _ 9 (Y.tyInt Y.w64) (room-sc (Row.sInt Y.w64)))))))))))
 
-          d16 : Typed.Typed U H A C E G20 b13 Δ3 at16
-          d16 = pre (Scalar.g-room U H A W E _ 10 S.ty (S.room U H A W)) (pre (Scalar.g-room U H A W E _ 12 Y.tyUnit (room-sc Row.sUnit)) (pre (Scalar.g-room U H A W E _ 14 (Y.tyInt Y.w64)
-              (room-sc (Row.sInt Y.w64))) d13))
+          d16 : Typed.Typed U H A C E (lives z2 (on 10 S.here (on 7 (Rows'.mref-owed (Array'.Array L.u64 32) y2 4 6 l1) (on 6 (Relend.mslice-owed L.u64 y4 3 5 l0) T21)))) b13 Δ3 at16
+          d16 = pre (Typed.pass T20 T21 s17) (Scalar.g-room U H A W E _ 10 S.ty (S.room U H A W)) (pre (Typed.pass T21 T22 s18) (Scalar.g-room U H A W E _ 12 Y.tyUnit (room-sc Row.sUnit))
+              (pre (Typed.pass T22 T23 s19) (Scalar.g-room U H A W E _ 14 (Y.tyInt Y.w64) (room-sc (Row.sInt Y.w64))) d13))
 
           d24 : Typed.Typed U H A C E (lives z0 T12) b18 Δ3 at24
-          d24 = seq (Scalar.t-op2 U H A W E C _ (Y.sub Y.unsigned) (Scalar.oAt 13 (Y.tyInt Y.w64) (Row.valS (Row.sInt Y.w64))) (Scalar.oAt 8 (Y.tyInt Y.w64) (Row.valS (Row.sInt Y.w64))) 14
-              L.h64 (Y.tyInt Y.w64) (Row.valS (Row.sInt Y.w64)) (Row.sInt Y.w64 .of) (reads-sc (Row.sInt Y.w64), refl) (reads-sc (Row.sInt Y.w64), refl) (gone (Y.tyInt Y.w64))
-              (Scalar.holds-sc U H A W (Row.sInt Y.w64)) refl (λ u. refl) λ u. tt) (pre (Scalar.g-room U H A W E _ 13 (Y.tyInt Y.w64) (room-sc (Row.sInt Y.w64))) (pre (begin 5 _) (seq
-              (Relend.t-sl-relend U H A W E L.u64 C _ 6 15 3 5 y4 y5 l0 0 (λ x. x) (as-is r7) (gone y5) refl tt refl refl refl λ b o. tt) (seq (Relend.t-sl-aggregate U H A W E L.u64 C
-              (Relend.asMut L.u64) _ 15 16 5 y5 y5 (λ x. x) (Scalar.oFld 6 (Y.field 1 ∷ []) (Y.tyInt Y.w64) 8 λ v. Shared.lenV (v .0)) (as-is r9) (gone (L.sl y5))
-              (Relend.reads-owed-len U H A W L.u64 y4 3 5 l0 8 refl, refl) refl refl λ b o k. tt) (pre (begin 6 _) (seq (Reborrow.t-mref-relend U H A W E C _ 7 17 4 6 (Array'.Array L.u64 32)
-              y9 y2 y3 l1 (λ x. x) (as-is r3) (gone y3) refl tt refl refl λ b o. tt) (seq (Plain.t-call-plain U H A W C 3 ps·2 r·2 (cl .4) (cl .5) "access::show" (known .2) E (λ pos β. β) _
+          d24 = seq (Typed.ask s9) (Scalar.t-op2 U H A W E C _ (Y.sub Y.unsigned) (Scalar.oAt 13 (Y.tyInt Y.w64) (Row.valS (Row.sInt Y.w64))) (Scalar.oAt 8 (Y.tyInt Y.w64) (Row.valS
+              (Row.sInt Y.w64))) 14 L.h64 (Y.tyInt Y.w64) (Row.valS (Row.sInt Y.w64)) (Row.sInt Y.w64 .of) (reads-sc (Row.sInt Y.w64), refl) (reads-sc (Row.sInt Y.w64), refl) (gone (Y.tyInt
+              Y.w64)) (Scalar.holds-sc U H A W (Row.sInt Y.w64)) refl (λ u. refl) λ u. tt) (pre (Typed.pass T13 T14 s10) (Scalar.g-room U H A W E _ 13 (Y.tyInt Y.w64) (room-sc (Row.sInt
+              Y.w64))) (pre (λ Ψ. Ψ) (begin 5 _) (seq (Typed.give s12) (Relend.t-sl-relend U H A W E L.u64 C _ 6 15 3 5 y4 y5 l0 0 (λ x. x) (as-is r7) (gone y5) refl tt refl refl refl λ b o.
+              tt) (seq (Typed.ask s13) (Relend.t-sl-aggregate U H A W E L.u64 C (Relend.asMut L.u64) _ 15 16 5 y5 y5 (λ x. x) (Scalar.oFld 6 (Y.field 1 ∷ []) (Y.tyInt Y.w64) 8 λ v.
+              Shared.lenV (v .0)) (as-is r9) (gone (L.sl y5)) (Relend.reads-owed-len U H A W L.u64 y4 3 5 l0 8 refl, refl) refl refl λ b o k. tt) (pre (λ Ψ. Ψ) (begin 6 _) (seq (Typed.give
+              s15) (Reborrow.t-mref-relend U H A W E C _ 7 17 4 6 (Array'.Array L.u64 32) y9 y2 y3 l1 (λ x. x) (as-is r3) (gone y3) refl tt refl refl λ b o. tt) (seq (Typed.both s16)
+              (Plain.t-call-plain U H A W C 3 ps·2 r·2 (cl .4) (cl .5) "access::show" (known .2) E (λ pos β. β) _
               (record { pos = 2; ty = y0; ref = λ x. x }, (Num.vAt 9 λ x. x, (record { pos = 10; st = []; d = 0; at = λ x. x }, (Num.vAt 8 λ x. x, (Num.vAt 14 λ x. x, (record { pos = 5; st = []; d = 0; at = λ x. x }, (record { pos = 16; ty = y5; ref = λ x. x }, (record { pos = 17; ty = y3; ref = λ x. x }, tt))))))))
               12 (1 ∷ 5 ∷ 6 ∷ []) (Call.sub-id U H A W _)
               (ShrRef.spares-sref U H A W (Array'.Array L.u64 928) y0 1, Reads.reads-sref U H A W (Array'.Array L.u64 928) y0 1, refl, ((reads-sc (Row.sInt Y.w64), refl), ((S.yields U H A W, refl), ((reads-sc (Row.sInt Y.w64), refl), ((reads-sc (Row.sInt Y.w64), refl), ((Yields.yields-copy U H A W (λ ρ. Unit) (Declared.row Ranking.the-type) refl (Copies.cStruct Ranking.the-type Ranking′.the-laws Ranking′.the-copy .copy U H A W) r13 (λ x. x) (λ x. x) (λ ρ told. Local.mem-whole U H A W (Declared.row Ranking.the-type) ρ) λ ρ told. Local.whole-mem U H A W (Declared.row Ranking.the-type) ρ, refl), (as-is r10, Mut.reads-mslice U H A W L.u64 y5 5, refl, (as-is (Rows'.mref (Array'.Array L.u64 32) y3 6), Reads.reads-mref U H A W (Array'.Array L.u64 32) y3 6, refl, tt))))))))
               (gone Y.tyUnit) (tt, (tt, (tt, tt))) refl) d16)))))))
 
           d25 : Typed.Typed U H A C E (lives z0 T11) b19 Δ3 at25
-          d25 = seq (Scalar.t-op2 U H A W E C _ (Y.sub Y.unsigned) (Scalar.oAt 4 (Y.tyInt Y.w64) (Row.valS (Row.sInt Y.w64))) (Scalar.oInt Y.w64 1) 13 L.h64 (Y.tyInt Y.w64) (Row.valS
-              (Row.sInt Y.w64)) (Row.sInt Y.w64 .of) (reads-sc (Row.sInt Y.w64), refl) tt (gone (Y.tyInt Y.w64)) (Scalar.holds-sc U H A W (Row.sInt Y.w64)) refl (λ u. refl) λ u. tt) d24
+          d25 = seq (Typed.ask s8) (Scalar.t-op2 U H A W E C _ (Y.sub Y.unsigned) (Scalar.oAt 4 (Y.tyInt Y.w64) (Row.valS (Row.sInt Y.w64))) (Scalar.oInt Y.w64 1) 13 L.h64 (Y.tyInt Y.w64)
+              (Row.valS (Row.sInt Y.w64)) (Row.sInt Y.w64 .of) (reads-sc (Row.sInt Y.w64), refl) tt (gone (Y.tyInt Y.w64)) (Scalar.holds-sc U H A W (Row.sInt Y.w64)) refl (λ u. refl) λ u.
+              tt) d24
 
           d26 : Typed.Typed U H A C E (lives z0 T10) b20 Δ3 at26
-          d26 = seq (Plain.t-call-plain U H A W C 1 ps·1 r·1 (cl .2) (cl .3) "samples::peek" (known .1) E (λ pos β. β) _ (record { pos = 1; ty = y6; ref = λ x. x }, (Num.vAt 9 λ x. x, tt))
-              10 (0 ∷ []) (Call.sub-id U H A W _) (ShrSlice.spares-sslice U H A W S.row y6 0, Shared.reads-sslice U H A W S.row y6 0, refl, ((reads-sc (Row.sInt Y.w64), refl), tt)) (gone
-              S.ty) (tt, tt) refl) d25
+          d26 = seq (Typed.both s7) (Plain.t-call-plain U H A W C 1 ps·1 r·1 (cl .2) (cl .3) "samples::peek" (known .1) E (λ pos β. β) _
+              (record { pos = 1; ty = y6; ref = λ x. x }, (Num.vAt 9 λ x. x, tt)) 10 (0 ∷ []) (Call.sub-id U H A W _)
+              (ShrSlice.spares-sslice U H A W S.row y6 0, Shared.reads-sslice U H A W S.row y6 0, refl, ((reads-sc (Row.sInt Y.w64), refl), tt)) (gone S.ty) (tt, tt) refl) d25
 
           d27 : Typed.Typed U H A C E G3 b21 Δ3 at27
-          d27 = seq (Plain.t-call-plain U H A W C 1 ps·0 r·0 (cl .0) (cl .1) "access::slot_at" (known .0) E (λ pos β. β) _ (record { pos = 3; ty = y1; ref = λ x. x }, (Num.vAt 8 λ x. x, tt))
-              9 (2 ∷ []) (Call.sub-id U H A W _)
+          d27 = seq (Typed.both s6) (Plain.t-call-plain U H A W C 1 ps·0 r·0 (cl .0) (cl .1) "access::slot_at" (known .0) E (λ pos β. β) _
+              (record { pos = 3; ty = y1; ref = λ x. x }, (Num.vAt 8 λ x. x, tt)) 9 (2 ∷ []) (Call.sub-id U H A W _)
               (ShrRef.spares-sref U H A W (Array'.Array L.u64 256) y1 2, Reads.reads-sref U H A W (Array'.Array L.u64 256) y1 2, refl, ((reads-sc (Row.sInt Y.w64), refl), tt)) (gone (Y.tyInt
               Y.w64)) (tt, tt) refl) d26
 
           d29 : Typed.Typed U H A C E G3 b23 Δ3 at29
-          d29 = seq (Scalar.t-op2 U H A W E C _ (Y.lt Y.unsigned) (Scalar.oAt 8 (Y.tyInt Y.w64) (Row.valS (Row.sInt Y.w64))) (Scalar.oAt 4 (Y.tyInt Y.w64) (Row.valS (Row.sInt Y.w64))) 11
-              L.hbool Y.tyBool (Row.valS Row.sBool) (Row.sBool .of) (reads-sc (Row.sInt Y.w64), refl) (reads-sc (Row.sInt Y.w64), refl) (gone Y.tyBool) (Scalar.holds-sc U H A W Row.sBool)
-              refl (λ u. refl) λ u. tt) (Typed.t-seq U H A W C E _ _ b4 b21 Δ3 at5 at27 d5 d27)
+          d29 = seq (Typed.ask s2) (Scalar.t-op2 U H A W E C _ (Y.lt Y.unsigned) (Scalar.oAt 8 (Y.tyInt Y.w64) (Row.valS (Row.sInt Y.w64))) (Scalar.oAt 4 (Y.tyInt Y.w64) (Row.valS (Row.sInt
+              Y.w64))) 11 L.hbool Y.tyBool (Row.valS Row.sBool) (Row.sBool .of) (reads-sc (Row.sInt Y.w64), refl) (reads-sc (Row.sInt Y.w64), refl) (gone Y.tyBool) (Scalar.holds-sc U H A W
+              Row.sBool) refl (λ u. refl) λ u. tt) (Typed.t-seq U H A W C E _ _ b4 b21 Δ3 at5 at27 d5 d27)
 
           d30 : Typed.Typed U H A C E G3 b24 Δ2 at30
           d30 = Typed.t-loop-by U H A W C E _ b23 Δ2 put0 (λ u vs. Inv·0 (Row.get 1 (T3 .locals) u .now) (Row.get 2 (T3 .locals) u .now) (Row.get 3 (T3 .locals) u .now) (Row.get 4 (T3
@@ -567,14 +613,14 @@ module _ (cl : Claims) where
           d31 = Typed.t-block U H A W C E _ b24 Δ1 at30 d30
 
           d35 : Typed.Typed U H A C E G4 b28 Δ0 at35
-          d35 = seq (Scalar.t-use U H A W E C _ Scalar.oUnit 0 L.hunit Y.tyUnit (Row.valS Row.sUnit) (Row.sUnit .of) tt (gone Y.tyUnit) (Scalar.holds-sc U H A W Row.sUnit) refl (λ u. refl) λ
-              u. tt) (pre (Scalar.g-room U H A W E _ 8 (Y.tyInt Y.w64) (room-sc (Row.sInt Y.w64))) (pre (Scalar.g-room U H A W E _ 4 (Y.tyInt Y.w64) (room-sc (Row.sInt Y.w64)))
-              (Typed.t-return U H A W C E Δ0 tt)))
+          d35 = seq (Typed.pass T4 T33 s29) (Scalar.t-use U H A W E C _ Scalar.oUnit 0 L.hunit Y.tyUnit (Row.valS Row.sUnit) (Row.sUnit .of) tt (gone Y.tyUnit) (Scalar.holds-sc U H A W
+              Row.sUnit) refl (λ u. refl) λ u. tt) (pre (Typed.pass T33 T34 s30) (Scalar.g-room U H A W E _ 8 (Y.tyInt Y.w64) (room-sc (Row.sInt Y.w64))) (pre (Typed.pass T34 T1 s31)
+              (Scalar.g-room U H A W E _ 4 (Y.tyInt Y.w64) (room-sc (Row.sInt Y.w64))) (Typed.t-return U H A W C E Δ0 tt)))
 
           d38 : Typed.Typed U H A C E (lives z0 T0) b30 Δ0 at38
-          d38 = pre (Know.g-sl-known U H A W (Referent.fInt Y.w64) E _ 6 3 y4 l0 0 (λ x. x) record { fits = Dec'.lit< tt } (as-is r7) refl tt) (seq (Scalar.t-use U H A W E C _ (Scalar.oInt
-              Y.w64 0) 8 L.h64 (Y.tyInt Y.w64) (Row.valS (Row.sInt Y.w64)) (Row.sInt Y.w64 .of) tt (gone (Y.tyInt Y.w64)) (Scalar.holds-sc U H A W (Row.sInt Y.w64)) refl (λ u. refl) λ u. tt)
-              (Typed.t-seq U H A W C E _ _ b25 b28 Δ0 at31 at35 d31 d35))
+          d38 = pre (Typed.give s0) (Know.g-sl-known U H A W (Referent.fInt Y.w64) E _ 6 3 y4 l0 0 (λ x. x) record { fits = Dec'.lit< tt } (as-is r7) refl tt) (seq (Typed.pass T0 T3 s1)
+              (Scalar.t-use U H A W E C _ (Scalar.oInt Y.w64 0) 8 L.h64 (Y.tyInt Y.w64) (Row.valS (Row.sInt Y.w64)) (Row.sInt Y.w64 .of) tt (gone (Y.tyInt Y.w64)) (Scalar.holds-sc U H A W
+              (Row.sInt Y.w64)) refl (λ u. refl) λ u. tt) (Typed.t-seq U H A W C E _ _ b25 b28 Δ0 at31 at35 d31 d35))
 
           pub typed : Typed.Typed U H A C E (Function.Γin 5 ps r xs m κs qs) b30 (Function.Δret 5 ps r xs m κs qs) Φ
           typed = d38
@@ -635,10 +681,10 @@ module _ (cl : Claims) where
           (m2 c)) (Row.get 5 (T3 .locals) (m2 c)) (Row.get 6 (T3 .locals) (m2 c) .now) (Row.get 7 (T3 .locals) (m2 c) .now) (Row.get 8 (T3 .locals) (m2 c)) (Row.get 6 (T3 .locals) (m2 c)
           .now) (Row.get 7 (T3 .locals) (m2 c) .now) (Row.get 8 (T3 .locals) (m2 c))
 
-      abbrev m3 : (before : After-slice-known) → (out : List.List (Referent.rtF (Referent.fInt Y.w64) .Denot)) → (seen : Array'.Array L.u64 32 .Denot) → (p : L.h64 .Mod) → Typed.Mo T3
-      m3 before out seen p = Row.set 8 (8, L.h64) p (Row.setRow 7 (7, r3) (Row.setRow 6 (6, r7) (T3 .locals))) (Row.set 7 (7, r3) record
-          { ptr = Row.get 7 (T3 .locals) (m2 before) .ptr; name = Row.get 7 (T3 .locals) (m2 before) .name; now = seen } (Row.setRow 6 (6, r7) (T3 .locals)) (Row.set 6 (6, r7) record
-          { ptr = Row.get 6 (T3 .locals) (m2 before) .ptr; name = Row.get 6 (T3 .locals) (m2 before) .name; now = out } (T3 .locals) (m2 before)))
+      abbrev m3 : (c : After-slice-known) → (out : List.List (Referent.rtF (Referent.fInt Y.w64) .Denot)) → (seen : Array'.Array L.u64 32 .Denot) → (p : L.h64 .Mod) → Typed.Mo T3
+      m3 c out seen p = Row.set 8 (8, L.h64) p (Row.setRow 7 (7, r3) (Row.setRow 6 (6, r7) (T3 .locals))) (Row.set 7 (7, r3) record
+          { ptr = Row.get 7 (T3 .locals) (m2 c) .ptr; name = Row.get 7 (T3 .locals) (m2 c) .name; now = seen } (Row.setRow 6 (6, r7) (T3 .locals)) (Row.set 6 (6, r7) record
+          { ptr = Row.get 6 (T3 .locals) (m2 c) .ptr; name = Row.get 6 (T3 .locals) (m2 c) .name; now = out } (T3 .locals) (m2 c)))
 
       abbrev W3 : (c : After-slice-known) → (out : List.List (Referent.rtF (Referent.fInt Y.w64) .Denot)) → (seen : Array'.Array L.u64 32 .Denot) → (p : L.h64 .Mod) → Typed.Want O3
       W3 c out seen p = Typed.inLoop T3 O2 (Typed.Round T3 O2 put0 (λ u vs. Inv·0 (Row.get 1 (T3 .locals) u .now) (Row.get 2 (T3 .locals) u .now) (Row.get 3 (T3 .locals) u .now) (Row.get 4

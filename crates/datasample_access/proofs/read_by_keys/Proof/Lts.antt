@@ -73,6 +73,9 @@ y1 = Y.tyRef Y.erased Y.mut y7
 abbrev y0 : Y.Ty
 y0 = Y.tyRef (Y.named 0) Y.mut y7
 
+abbrev r0 : Row.Row
+r0 = Rows.mref-owed (Array.Array L.u64 928) y0 0 4 Row.off
+
 abbrev r1 : Row.Row
 r1 = Rows.mref (Array.Array L.u64 928) y0 0
 
@@ -97,6 +100,9 @@ r7 = Rows.sslice L.u64 y2 2
 abbrev r8 : Row.Row
 r8 = Mut.mslice L.u64 y3 3
 
+abbrev r9 : Row.Row
+r9 = Rows.any-gone (L.sl y4)
+
 abbrev r10 : Row.Row
 r10 = Relend.msptr L.u64 y4 6
 
@@ -111,6 +117,9 @@ r13 = Mut.mslice S.row y5 1
 
 abbrev r14 : Row.Row
 r14 = Rows.any-gone y4
+
+abbrev r15 : Row.Row
+r15 = Rows.any-gone (L.sl y6)
 
 abbrev r16 : Row.Row
 r16 = Relend.msptr S.row y6 5
@@ -129,6 +138,9 @@ r20 = Rows.whole (Declared.row ListOutcome.the-type)
 
 abbrev r21 : Row.Row
 r21 = Rows.whole (Declared.row Cache.the-type)
+
+abbrev r22 : Row.Row
+r22 = Rows.any-gone ListOutcome′.mir
 
 abbrev r23 : Row.Row
 r23 = Rows.any-gone Cache′.mir
@@ -172,8 +184,19 @@ abbrev pub Claims : Type 1
 Claims = Kinds.In 4 ps·0 × Kinds.Out 4 ps·0 r·0
 
 abbrev t0 : List.List Row.Entry
-t0 = (0, (Rows.any-gone ListOutcome′.mir)) ∷ (1, r21) ∷ (2, r1) ∷ (3, r13) ∷ (4, r7) ∷ (5, r8) ∷ (6, r6) ∷ (7, r19) ∷ (8, (Rows.any-gone (L.sl y6))) ∷ (9, r14) ∷
-    (10, (Rows.any-gone (L.sl y4))) ∷ []
+t0 = (0, r22) ∷ (1, r21) ∷ (2, r1) ∷ (3, r13) ∷ (4, r7) ∷ (5, r8) ∷ (6, r6) ∷ (7, r19) ∷ (8, r15) ∷ (9, r14) ∷ (10, r9) ∷ []
+
+abbrev t3 : List.List Row.Entry
+t3 = (0, r22) ∷ (1, r21) ∷ (2, r0) ∷ (3, r5) ∷ (4, r7) ∷ (5, r8) ∷ (6, r2) ∷ (7, r16) ∷ (8, r15) ∷ (9, r14) ∷ (10, r9) ∷ []
+
+abbrev t5 : List.List Row.Entry
+t5 = (0, r22) ∷ (1, r21) ∷ (2, r0) ∷ (3, r5) ∷ (4, r7) ∷ (5, r4) ∷ (6, r2) ∷ (7, r19) ∷ (8, r17) ∷ (9, r10) ∷ (10, r9) ∷ []
+
+abbrev t7 : List.List Row.Entry
+t7 = (0, r20) ∷ (1, r21) ∷ (2, r0) ∷ (3, r5) ∷ (4, r7) ∷ (5, r4) ∷ (6, r3) ∷ (7, r19) ∷ (8, r18) ∷ (9, r14) ∷ (10, r12) ∷ []
+
+abbrev t10 : List.List Row.Entry
+t10 = (0, r20) ∷ (1, r23) ∷ (2, r1) ∷ (3, r13) ∷ (4, r7) ∷ (5, r4) ∷ (6, r6) ∷ (7, r19) ∷ (8, r15) ∷ (9, r14) ∷ (10, r12) ∷ []
 
 abbrev on : Nat.ℕ → Row.Row → Row.Cx → Row.Cx
 on n r Γ = record { locals = Row.setRow n (n, r) (Γ .locals); slots = Γ .slots }
@@ -191,31 +214,31 @@ abbrev T1 : Row.Cx
 T1 = on 1 r23 (on 0 r20 T0)
 
 abbrev T5 : Row.Cx
-T5 = on 6 r2 (on 2 (Rows.mref-owed (Array.Array L.u64 928) y0 0 4 Row.off) T0)
+T5 = on 6 r2 (on 2 r0 T0)
 
 abbrev T7 : Row.Cx
-T7 = on 7 r16 (on 3 r5 T5)
+T7 = record { locals = t3; slots = [] }
 
 abbrev T8 : Row.Cx
-T8 = on 8 r17 (on 3 r5 T5)
+T8 = on 8 r17 (on 7 r19 T7)
 
 abbrev T10 : Row.Cx
-T10 = on 9 r10 (on 5 r4 T8)
+T10 = record { locals = t5; slots = [] }
 
 abbrev T11 : Row.Cx
-T11 = on 10 r11 (on 5 r4 T8)
+T11 = on 10 r11 (on 9 r14 T10)
 
 abbrev T12 : Row.Cx
-T12 = on 10 r12 (on 8 r18 (on 6 r3 (on 0 r20 T11)))
+T12 = record { locals = t7; slots = [] }
 
 abbrev T13 : Row.Cx
 T13 = on 1 r23 T12
 
 abbrev T15 : Row.Cx
-T15 = on 10 r12 (on 8 r18 (on 5 r4 (on 3 r5 T1)))
+T15 = on 6 r6 (on 2 r1 T13)
 
 abbrev T18 : Row.Cx
-T18 = on 10 r12 (on 5 r4 T1)
+T18 = record { locals = t10; slots = [] }
 
 abbrev O0 : Typed.Outs
 O0 = record { next = Option.none; exits = []; returns = Option.some T1 }
@@ -314,13 +337,13 @@ module _ (cl : Claims) where
         abbrev E : Wp.Env U H
         E = Frame.EnvOf U H (Kinds.tyR r ∷ (Enter.tysP ps xs)) bs
 
-        pre : {Γ Γ₁ : Row.Cx} {b : Y.Body} {Δ : Typed.Outs} {φ : Typed.Tf Γ Γ₁} {Φ : Typed.TF Γ₁ Δ} → Typed.Ghost U H A E Γ Γ₁ φ → Typed.Typed U H A C E Γ₁ b Δ Φ → Typed.Typed U H A C E Γ b
+        pre : {Γ Γ₁ : Row.Cx} {b : Y.Body} {Δ : Typed.Outs} {Φ : Typed.TF Γ₁ Δ} (φ : Typed.Tf Γ Γ₁) → Typed.Ghost U H A E Γ Γ₁ φ → Typed.Typed U H A C E Γ₁ b Δ Φ → Typed.Typed U H A C E Γ b
             Δ (λ Ψ. φ (Φ Ψ))
-        pre = Typed.g-pre U H A W C E _ _ _ _ _ _
+        pre φ = Typed.g-pre U H A W C E _ _ _ _ φ _
 
-        seq : {Γ Γ₁ : Row.Cx} {a b : Y.Body} {Δ : Typed.Outs} {φ : Typed.Tf Γ Γ₁} {Φ : Typed.TF Γ₁ Δ} → Typed.Stmt U H A C E Γ a Γ₁ φ → Typed.Typed U H A C E Γ₁ b Δ Φ → Typed.Typed U H A C E
+        seq : {Γ Γ₁ : Row.Cx} {a b : Y.Body} {Δ : Typed.Outs} {Φ : Typed.TF Γ₁ Δ} (φ : Typed.Tf Γ Γ₁) → Typed.Stmt U H A C E Γ a Γ₁ φ → Typed.Typed U H A C E Γ₁ b Δ Φ → Typed.Typed U H A C E
             Γ (Y.seq a b) Δ (λ Ψ. φ (Φ Ψ))
-        seq = Typed.s-seq U H A W C E _ _ _ _ _ _ _
+        seq φ = Typed.s-seq U H A W C E _ _ _ _ _ φ _
 
         begin : {Γ : Row.Cx} (α : Nat.ℕ) → Row.Fresh α (Γ .locals) → Typed.Ghost U H A E Γ (Lifetime.Begun Γ α) (Typed.pass Γ (Lifetime.Begun Γ α) (λ u. u))
         begin = Lifetime.g-begin U H A W E _
@@ -332,33 +355,36 @@ module _ (cl : Claims) where
         gone = Reads.room-gone U H A
 
         d7 : Typed.Typed U H A C E (record { locals = g9; slots = l0 ∷ Row.off ∷ Row.lease (κs .1 .1 .0) (qs .1 .1 .0) ∷ Row.off ∷ Row.off ∷ Row.alive ∷ Row.alive ∷ [] }) b6 Δ0 at7
-        d7 = pre (Lifetime.g-end U H A W E _ 5 refl) (pre (Relend.g-back-sl U H A W E S.row _ 8 3 1 5 y5 y6 l1 (λ x. x) (λ x. x) (as-is r18) (as-is (Relend.mslice-owed S.row y5 1 5 l1)) refl
-            refl) (pre (Lifetime.g-forget U H A W E _ 5 Row.dead refl) (pre (Lifetime.g-end U H A W E _ 6 refl) (pre (Relend.g-back-sl U H A W E L.u64 _ 10 5 3 6 y3 y4 l2 (λ x. x) (λ x. x)
-            (as-is r12) (as-is (Relend.mslice-owed L.u64 y3 3 6 l2)) refl refl) (pre (Know.g-sl-known U H A W (Referent.fInt Y.w64) E _ 5 3 y3 l2 0 (λ x. x) record { fits = Dec'.lit< tt }
-            (as-is r8) refl tt) (pre (Lifetime.g-forget U H A W E _ 6 Row.dead refl) (Typed.t-return U H A W C E Δ0 tt)))))))
+        d7 = pre (λ Ψ. Ψ) (Lifetime.g-end U H A W E _ 5 refl) (pre (Typed.both s16) (Relend.g-back-sl U H A W E S.row _ 8 3 1 5 y5 y6 l1 (λ x. x) (λ x. x) (as-is r18) (as-is
+            (Relend.mslice-owed S.row y5 1 5 l1)) refl refl) (pre (λ Ψ. Ψ) (Lifetime.g-forget U H A W E _ 5 Row.dead refl) (pre (λ Ψ. Ψ) (Lifetime.g-end U H A W E _ 6 refl) (pre (Typed.both
+            s19) (Relend.g-back-sl U H A W E L.u64 _ 10 5 3 6 y3 y4 l2 (λ x. x) (λ x. x) (as-is r12) (as-is (Relend.mslice-owed L.u64 y3 3 6 l2)) refl refl) (pre (Typed.give s20)
+            (Know.g-sl-known U H A W (Referent.fInt Y.w64) E _ 5 3 y3 l2 0 (λ x. x) record { fits = Dec'.lit< tt } (as-is r8) refl tt) (pre (λ Ψ. Ψ) (Lifetime.g-forget U H A W E _ 6 Row.dead
+            refl) (Typed.t-return U H A W C E Δ0 tt)))))))
 
-        d11 : Typed.Typed U H A C E (lives (Row.off ∷ Row.off ∷ Row.lease (κs .1 .1 .0) (qs .1 .1 .0) ∷ Row.off ∷ Row.alive ∷ Row.alive ∷ Row.alive ∷ []) (on 6 r3 (on 5 (Relend.mslice-owed
-            L.u64 y3 3 6 l2) (on 3 (Relend.mslice-owed S.row y5 1 5 l1) (on 2 (Rows.mref-owed (Array.Array L.u64 928) y0 0 4 l0) (on 1 r21 T15)))))) b6 Δ0 at11
-        d11 = pre (Scalar.g-room U H A W E _ 1 Cache′.mir (Local.room-whole U H A W (Declared.row Cache.the-type) Cache′.mir refl)) (pre (Lifetime.g-end U H A W E _ 4 refl) (pre
-            (Reborrow.g-back-mref U H A W E _ 6 2 0 4 (Array.Array L.u64 928) y0 y1 l0 (λ x. x) (λ x. x) (as-is r3) (as-is (Rows.mref-owed (Array.Array L.u64 928) y0 0 4 l0)) refl refl) (pre
-            (Lifetime.g-forget U H A W E _ 4 Row.dead refl) d7)))
+        d11 : Typed.Typed U H A C E (lives (Row.off ∷ Row.off ∷ Row.lease (κs .1 .1 .0) (qs .1 .1 .0) ∷ Row.off ∷ Row.alive ∷ Row.alive ∷ Row.alive ∷ []) (on 5 (Relend.mslice-owed L.u64 y3 3
+            6 l2) (on 3 (Relend.mslice-owed S.row y5 1 5 l1) (on 2 (Rows.mref-owed (Array.Array L.u64 928) y0 0 4 l0) T12)))) b6 Δ0 at11
+        d11 = pre (Typed.pass T12 T13 s11) (Scalar.g-room U H A W E _ 1 Cache′.mir (Local.room-whole U H A W (Declared.row Cache.the-type) Cache′.mir refl)) (pre (λ Ψ. Ψ) (Lifetime.g-end U H
+            A W E _ 4 refl) (pre (Typed.ask s13) (Reborrow.g-back-mref U H A W E _ 6 2 0 4 (Array.Array L.u64 928) y0 y1 l0 (λ x. x) (λ x. x) (as-is r3) (as-is (Rows.mref-owed (Array.Array
+            L.u64 928) y0 0 4 l0)) refl refl) (pre (λ Ψ. Ψ) (Lifetime.g-forget U H A W E _ 4 Row.dead refl) d7)))
 
         d19 : Typed.Typed U H A C E (life 4 Row.alive G0) b12 Δ0 at19
-        d19 = seq (Reborrow.t-mref-relend U H A W E C _ 2 6 0 4 (Array.Array L.u64 928) y7 y0 y1 l0 (λ x. x) (as-is r1) (gone y1) refl tt refl refl λ b o. tt) (pre (begin 5 _) (seq
-            (Relend.t-sl-relend U H A W E S.row C _ 3 7 1 5 y5 y6 l1 0 (λ x. x) (as-is r13) (gone y6) refl tt refl refl refl λ b o. tt) (seq (Relend.t-sl-aggregate U H A W E S.row C
-            (Relend.asMut S.row) _ 7 8 5 y6 y6 (λ x. x) (Scalar.oFld 3 (Y.field 1 ∷ []) (Y.tyInt Y.w64) 8 λ v. Shared.lenV (v .0)) (as-is r16) (gone (L.sl y6))
-            (Relend.reads-owed-len U H A W S.row y5 1 5 l1 8 refl, refl) refl refl λ b o k. tt) (pre (begin 6 _) (seq (Relend.t-sl-relend U H A W E L.u64 C _ 5 9 3 6 y3 y4 l2 0 (λ x. x)
-            (as-is r8) (gone y4) refl tt refl refl refl λ b o. tt) (seq (Relend.t-sl-aggregate U H A W E L.u64 C (Relend.asMut L.u64) _ 9 10 6 y4 y4 (λ x. x) (Scalar.oFld 5 (Y.field 1 ∷ [])
-            (Y.tyInt Y.w64) 8 λ v. Shared.lenV (v .0)) (as-is r10) (gone (L.sl y4)) (Relend.reads-owed-len U H A W L.u64 y3 3 6 l2 8 refl, refl) refl refl λ b o k. tt) (seq
-            (Plain.t-call-plain U H A W C 4 ps·0 r·0 (cl .0) (cl .1) "datasample_access::by_keys" known E (λ pos β. β) _
+        d19 = seq (Typed.give s3) (Reborrow.t-mref-relend U H A W E C _ 2 6 0 4 (Array.Array L.u64 928) y7 y0 y1 l0 (λ x. x) (as-is r1) (gone y1) refl tt refl refl λ b o. tt) (pre (λ Ψ. Ψ)
+            (begin 5 _) (seq (Typed.give s5) (Relend.t-sl-relend U H A W E S.row C _ 3 7 1 5 y5 y6 l1 0 (λ x. x) (as-is r13) (gone y6) refl tt refl refl refl λ b o. tt) (seq (Typed.ask s6)
+            (Relend.t-sl-aggregate U H A W E S.row C (Relend.asMut S.row) _ 7 8 5 y6 y6 (λ x. x) (Scalar.oFld 3 (Y.field 1 ∷ []) (Y.tyInt Y.w64) 8 λ v. Shared.lenV (v .0)) (as-is r16) (gone
+            (L.sl y6)) (Relend.reads-owed-len U H A W S.row y5 1 5 l1 8 refl, refl) refl refl λ b o k. tt) (pre (λ Ψ. Ψ) (begin 6 _) (seq (Typed.give s8) (Relend.t-sl-relend U H A W E L.u64
+            C _ 5 9 3 6 y3 y4 l2 0 (λ x. x) (as-is r8) (gone y4) refl tt refl refl refl λ b o. tt) (seq (Typed.ask s9) (Relend.t-sl-aggregate U H A W E L.u64 C (Relend.asMut L.u64) _ 9 10 6
+            y4 y4 (λ x. x) (Scalar.oFld 5 (Y.field 1 ∷ []) (Y.tyInt Y.w64) 8 λ v. Shared.lenV (v .0)) (as-is r10) (gone (L.sl y4))
+            (Relend.reads-owed-len U H A W L.u64 y3 3 6 l2 8 refl, refl) refl refl λ b o k. tt) (seq (Typed.both s10) (Plain.t-call-plain U H A W C 4 ps·0 r·0 (cl .0) (cl .1)
+            "datasample_access::by_keys" known E (λ pos β. β) _
             (record { pos = 1; st = []; d = 0; at = λ x. x }, (record { pos = 6; ty = y1; ref = λ x. x }, (record { pos = 8; ty = y6; ref = λ x. x }, (record { pos = 4; ty = y2; ref = λ x. x }, (Bool.bLit Bool'.false, (record { pos = 10; ty = y4; ref = λ x. x }, tt))))))
             0 (4 ∷ 5 ∷ 2 ∷ 6 ∷ []) (Call.sub-id U H A W _)
             ((Yields.yields-copy U H A W (λ ρ. Unit) (Declared.row Cache.the-type) refl (Copies.cStruct Cache.the-type Cache′.the-laws Cache′.the-copy .copy U H A W) r21 (λ x. x) (λ x. x) (λ ρ told. Local.mem-whole U H A W (Declared.row Cache.the-type) ρ) λ ρ told. Local.whole-mem U H A W (Declared.row Cache.the-type) ρ, refl), (as-is r2, Reads.reads-mref U H A W (Array.Array L.u64 928) y1 4, refl, (as-is r17, Mut.reads-mslice U H A W S.row y6 5, refl, (ShrSlice.spares-sslice U H A W L.u64 y2 2, Shared.reads-sslice U H A W L.u64 y2 2, refl, (tt, (as-is r11, Mut.reads-mslice U H A W L.u64 y4 6, refl, tt))))))
             (gone ListOutcome′.mir) (tt, (tt, (tt, (tt, tt)))) refl) d11)))))))
 
         d22 : Typed.Typed U H A C E G0 b12 Δ0 at22
-        d22 = pre (Know.g-shs-known U H A W (Referent.fInt Y.w64) E _ 4 2 y2 (Row.lease (κs .1 .1 .0) (qs .1 .1 .0)) 0 (λ x. x) record { fits = Dec'.lit< tt } (as-is r7) refl tt) (pre
-            (Know.g-sl-known U H A W (Referent.fInt Y.w64) E _ 5 3 y3 l2 0 (λ x. x) record { fits = Dec'.lit< tt } (as-is r8) refl tt) (pre (begin 4 _) d19))
+        d22 = pre (Typed.give s0) (Know.g-shs-known U H A W (Referent.fInt Y.w64) E _ 4 2 y2 (Row.lease (κs .1 .1 .0) (qs .1 .1 .0)) 0 (λ x. x) record { fits = Dec'.lit< tt } (as-is r7) refl
+            tt) (pre (Typed.give s1) (Know.g-sl-known U H A W (Referent.fInt Y.w64) E _ 5 3 y3 l2 0 (λ x. x) record { fits = Dec'.lit< tt } (as-is r8) refl tt) (pre (λ Ψ. Ψ) (begin 4 _)
+            d19))
 
         pub typed : Typed.Typed U H A C E (Function.Γin 4 ps r xs m κs qs) b12 (Function.Δret 4 ps r xs m κs qs) Φ
         typed = d22

@@ -105,8 +105,8 @@ y1 = Y.tyRef (Y.named 2) Y.imm (Y.tyArray (Y.tyInt Y.w64) 256)
 abbrev y0 : Y.Ty
 y0 = Y.tyRef (Y.named 0) Y.mut y12
 
-abbrev r1 : Row.Row
-r1 = Reshare.mref-owedS (Array'.Array L.u64 928) y0 0 6 Row.off
+abbrev r0 : Row.Row
+r0 = Reshare.mref-owedS (Array'.Array L.u64 928) y0 0 4 Row.off
 
 abbrev r2 : Row.Row
 r2 = Reshare.mref-owedS (Array'.Array L.u64 928) y0 0 8 Row.off
@@ -116,6 +116,9 @@ r3 = Rows'.mref-owed (Array'.Array L.u64 928) y0 0 12 Row.off
 
 abbrev r4 : Row.Row
 r4 = Rows'.mref (Array'.Array L.u64 928) y0 0
+
+abbrev r5 : Row.Row
+r5 = Rows'.sref (Array'.Array L.u64 256) y1 2
 
 abbrev r6 : Row.Row
 r6 = Rows'.mref (Array'.Array L.u64 928) y3 12
@@ -150,8 +153,20 @@ r15 = Rows'.any-gone y2
 abbrev r16 : Row.Row
 r16 = Rows'.any-gone y3
 
+abbrev r17 : Row.Row
+r17 = Rows'.any-gone y4
+
+abbrev r18 : Row.Row
+r18 = Rows'.any-gone y5
+
 abbrev r19 : Row.Row
 r19 = Mut.mslice L.u64 y6 3
+
+abbrev r20 : Row.Row
+r20 = Rows'.any-gone (L.sl y7)
+
+abbrev r21 : Row.Row
+r21 = Rows'.whole (Declared.row NotAliveGenerationCounts.the-type)
 
 abbrev r22 : Row.Row
 r22 = Mut.mslice L.u64 y7 9
@@ -159,14 +174,23 @@ r22 = Mut.mslice L.u64 y7 9
 abbrev r23 : Row.Row
 r23 = Mut.msleft L.u64 y7
 
+abbrev r24 : Row.Row
+r24 = Rows'.any-gone y7
+
 abbrev r25 : Row.Row
 r25 = Mut.mslice S.row y9 1
 
 abbrev r26 : Row.Row
 r26 = Rows'.any-gone y8
 
+abbrev r27 : Row.Row
+r27 = Rows'.any-gone (L.sl y11)
+
 abbrev r28 : Row.Row
 r28 = Relend.ssptr S.row y10 5
+
+abbrev r29 : Row.Row
+r29 = Rows'.sslice S.row y10 5
 
 abbrev r30 : Row.Row
 r30 = Rows'.sslice S.row y10 7
@@ -183,6 +207,9 @@ r33 = Rows'.any-gone y11
 abbrev r34 : Row.Row
 r34 = Rows'.any-gone y14
 
+abbrev r35 : Row.Row
+r35 = Rows'.any-gone NotAliveGenerationCounts′.mir
+
 abbrev r36 : Row.Row
 r36 = Rows'.whole (Declared.row Ranking.the-type)
 
@@ -191,6 +218,9 @@ r37 = Rows'.whole (Declared.row Cache.the-type)
 
 abbrev r38 : Row.Row
 r38 = Rows'.sc-owed (Array'.Array L.u64 32) 10
+
+abbrev r39 : Row.Row
+r39 = Rows'.any-gone Ranking′.mir
 
 abbrev r40 : Row.Row
 r40 = Rows'.any-gone Cache′.mir
@@ -310,12 +340,90 @@ Claims = Kinds.In 1 ps·0 × Kinds.Out 1 ps·0 r·0 × Kinds.In 1 ps·1 × Kinds
     Kinds.Out 5 ps·4 r·4 × Kinds.In 2 ps·5 × Kinds.Out 2 ps·5 r·5 × Kinds.In 3 ps·6 × Kinds.Out 3 ps·6 r·6
 
 abbrev t0 : List.List Row.Entry
-t0 = (0, r40) ∷ (1, r37) ∷ (2, r4) ∷ (3, r25) ∷ (4, (Rows'.sref (Array'.Array L.u64 256) y1 2)) ∷ (5, L.h64) ∷ (6, L.hbool) ∷ (7, r19) ∷ (8, L.g64) ∷ (9, r42) ∷
-    (10, (Rows'.any-gone Ranking′.mir)) ∷ (11, r34) ∷ (12, r15) ∷ (13, r32) ∷ (14, r26) ∷ (15, (Rows'.any-gone NotAliveGenerationCounts′.mir)) ∷ []
+t0 = (0, r40) ∷ (1, r37) ∷ (2, r4) ∷ (3, r25) ∷ (4, r5) ∷ (5, L.h64) ∷ (6, L.hbool) ∷ (7, r19) ∷ (8, L.g64) ∷ (9, r42) ∷ (10, r39) ∷ (11, r34) ∷ (12, r15) ∷ (13, r32) ∷ (14, r26) ∷ (15, r35)
+    ∷ []
 
 abbrev t1 : List.List Row.Entry
-t1 = (16, r15) ∷ (17, L.gunit) ∷ (18, r32) ∷ (19, r26) ∷ (20, r15) ∷ (21, (Rows'.any-gone y7)) ∷ (22, (Rows'.any-gone (L.sl y7))) ∷ (23, (Rows'.any-gone y4)) ∷ (24, r33) ∷
-    (25, (Rows'.any-gone (L.sl y11))) ∷ (26, r16) ∷ (27, (Rows'.any-gone y5)) ∷ []
+t1 = (16, r15) ∷ (17, L.gunit) ∷ (18, r32) ∷ (19, r26) ∷ (20, r15) ∷ (21, r24) ∷ (22, r20) ∷ (23, r17) ∷ (24, r33) ∷ (25, r27) ∷ (26, r16) ∷ (27, r18) ∷ []
+
+abbrev t2 : List.List Row.Entry
+t2 = (0, r37) ∷ (1, r40) ∷ (2, r4) ∷ (3, r25) ∷ (4, r5) ∷ (5, L.g64) ∷ (6, L.gbool) ∷ (7, r19) ∷ (8, L.g64) ∷ (9, r42) ∷ (10, r39) ∷ (11, r34) ∷ (12, r15) ∷ (13, r32) ∷ (14, r26) ∷ (15, r35)
+    ∷ []
+
+abbrev t9 : List.List Row.Entry
+t9 = (0, r40) ∷ (1, r37) ∷ (2, r4) ∷ (3, r13) ∷ (4, r5) ∷ (5, L.h64) ∷ (6, L.hbool) ∷ (7, r19) ∷ (8, L.h64) ∷ (9, S.here) ∷ (10, r39) ∷ (11, r34) ∷ (12, r15) ∷ (13, r32) ∷ (14, r29) ∷
+    (15, r35) ∷ []
+
+abbrev t12 : List.List Row.Entry
+t12 = (0, r40) ∷ (1, r37) ∷ (2, (Reshare.mref-owedS (Array'.Array L.u64 928) y0 0 6 Row.off)) ∷ (3, r25) ∷ (4, r5) ∷ (5, L.h64) ∷ (6, L.hbool) ∷ (7, r19) ∷ (8, L.h64) ∷ (9, S.here) ∷
+    (10, r39) ∷ (11, r34) ∷ (12, r15) ∷ (13, r32) ∷ (14, r26) ∷ (15, r35) ∷ []
+
+abbrev t13 : List.List Row.Entry
+t13 = (16, Rows'.sref (Array'.Array L.u64 928) y2 6) ∷ (17, L.gunit) ∷ (18, r32) ∷ (19, r26) ∷ (20, r15) ∷ (21, r24) ∷ (22, r20) ∷ (23, r17) ∷ (24, r33) ∷ (25, r27) ∷ (26, r16) ∷ (27, r18) ∷
+    []
+
+abbrev t16 : List.List Row.Entry
+t16 = (0, r40) ∷ (1, r37) ∷ (2, r4) ∷ (3, r25) ∷ (4, r5) ∷ (5, L.h64) ∷ (6, L.hbool) ∷ (7, r19) ∷ (8, L.h64) ∷ (9, S.here) ∷ (10, r36) ∷ (11, r34) ∷ (12, r15) ∷ (13, r32) ∷ (14, r26) ∷
+    (15, r21) ∷ []
+
+abbrev t21 : List.List Row.Entry
+t21 = (0, r40) ∷ (1, r37) ∷ (2, r4) ∷ (3, r14) ∷ (4, r5) ∷ (5, L.h64) ∷ (6, L.hbool) ∷ (7, r19) ∷ (8, L.h64) ∷ (9, r42) ∷ (10, r36) ∷ (11, r41) ∷ (12, r15) ∷ (13, r32) ∷ (14, r26) ∷
+    (15, r35) ∷ []
+
+abbrev t22 : List.List Row.Entry
+t22 = (16, r15) ∷ (17, L.gunit) ∷ (18, Relend.ssptr S.row y10 7) ∷ (19, r26) ∷ (20, r15) ∷ (21, r24) ∷ (22, r20) ∷ (23, r17) ∷ (24, r33) ∷ (25, r27) ∷ (26, r16) ∷ (27, r18) ∷ []
+
+abbrev t24 : List.List Row.Entry
+t24 = (0, r40) ∷ (1, r37) ∷ (2, r2) ∷ (3, r14) ∷ (4, r5) ∷ (5, L.h64) ∷ (6, L.hbool) ∷ (7, r19) ∷ (8, L.h64) ∷ (9, r42) ∷ (10, r36) ∷ (11, r41) ∷ (12, r15) ∷ (13, r32) ∷ (14, r26) ∷
+    (15, r35) ∷ []
+
+abbrev t25 : List.List Row.Entry
+t25 = (16, r15) ∷ (17, L.gunit) ∷ (18, r32) ∷ (19, r30) ∷ (20, r8) ∷ (21, r24) ∷ (22, r20) ∷ (23, r17) ∷ (24, r33) ∷ (25, r27) ∷ (26, r16) ∷ (27, r18) ∷ []
+
+abbrev t29 : List.List Row.Entry
+t29 = (0, r40) ∷ (1, r37) ∷ (2, r2) ∷ (3, r14) ∷ (4, r5) ∷ (5, L.h64) ∷ (6, L.hbool) ∷ (7, r12) ∷ (8, L.h64) ∷ (9, r42) ∷ (10, r36) ∷ (11, r38) ∷ (12, r15) ∷ (13, r32) ∷ (14, r26) ∷
+    (15, r35) ∷ []
+
+abbrev t30 : List.List Row.Entry
+t30 = (16, r15) ∷ (17, L.gunit) ∷ (18, r32) ∷ (19, r30) ∷ (20, r8) ∷ (21, r24) ∷ (22, r22) ∷ (23, Rows'.mref (Array'.Array L.u64 32) y4 10) ∷ (24, r33) ∷ (25, r27) ∷ (26, r16) ∷ (27, r18) ∷
+    []
+
+abbrev t31 : List.List Row.Entry
+t31 = (16, r15) ∷ (17, L.hunit) ∷ (18, r32) ∷ (19, r30) ∷ (20, r8) ∷ (21, r24) ∷ (22, r23) ∷ (23, r11) ∷ (24, r33) ∷ (25, r27) ∷ (26, r16) ∷ (27, r18) ∷ []
+
+abbrev t32 : List.List Row.Entry
+t32 = (16, r15) ∷ (17, L.hunit) ∷ (18, r32) ∷ (19, r26) ∷ (20, r8) ∷ (21, r24) ∷ (22, r23) ∷ (23, r11) ∷ (24, r33) ∷ (25, r27) ∷ (26, r16) ∷ (27, r18) ∷ []
+
+abbrev t35 : List.List Row.Entry
+t35 = (16, r15) ∷ (17, L.gunit) ∷ (18, r32) ∷ (19, r26) ∷ (20, r15) ∷ (21, r24) ∷ (22, r23) ∷ (23, r11) ∷ (24, r33) ∷ (25, r27) ∷ (26, r16) ∷ (27, r18) ∷ []
+
+abbrev t36 : List.List Row.Entry
+t36 = (0, r40) ∷ (1, r37) ∷ (2, r2) ∷ (3, r25) ∷ (4, r5) ∷ (5, L.h64) ∷ (6, L.hbool) ∷ (7, r12) ∷ (8, L.h64) ∷ (9, r42) ∷ (10, r39) ∷ (11, r38) ∷ (12, r15) ∷ (13, r32) ∷ (14, r26) ∷
+    (15, r35) ∷ []
+
+abbrev t41 : List.List Row.Entry
+t41 = (0, r40) ∷ (1, r37) ∷ (2, r4) ∷ (3, Relend.mslice-owed S.row y9 1 11 Row.off) ∷ (4, r5) ∷ (5, L.h64) ∷ (6, L.hbool) ∷ (7, r19) ∷ (8, L.h64) ∷ (9, r42) ∷ (10, r39) ∷ (11, r41) ∷
+    (12, r15) ∷ (13, r32) ∷ (14, r26) ∷ (15, r35) ∷ []
+
+abbrev t42 : List.List Row.Entry
+t42 = (16, r15) ∷ (17, L.gunit) ∷ (18, r32) ∷ (19, r26) ∷ (20, r15) ∷ (21, r24) ∷ (22, r20) ∷ (23, r17) ∷ (24, Relend.msptr S.row y11 11) ∷ (25, r27) ∷ (26, r16) ∷ (27, r18) ∷ []
+
+abbrev t44 : List.List Row.Entry
+t44 = (16, r15) ∷ (17, L.hunit) ∷ (18, r32) ∷ (19, r26) ∷ (20, r15) ∷ (21, r24) ∷ (22, r20) ∷ (23, r17) ∷ (24, r33) ∷ (25, r31) ∷ (26, r16) ∷ (27, r18) ∷ []
+
+abbrev t46 : List.List Row.Entry
+t46 = (0, r40) ∷ (1, r37) ∷ (2, r3) ∷ (3, r25) ∷ (4, r5) ∷ (5, L.h64) ∷ (6, L.hbool) ∷ (7, r19) ∷ (8, L.h64) ∷ (9, r42) ∷ (10, r39) ∷ (11, r41) ∷ (12, r15) ∷ (13, r32) ∷ (14, r26) ∷
+    (15, r35) ∷ []
+
+abbrev t47 : List.List Row.Entry
+t47 = (16, r15) ∷ (17, L.gunit) ∷ (18, r32) ∷ (19, r26) ∷ (20, r15) ∷ (21, r24) ∷ (22, r20) ∷ (23, r17) ∷ (24, r33) ∷ (25, r27) ∷ (26, r6) ∷ (27, r18) ∷ []
+
+abbrev t50 : List.List Row.Entry
+t50 = (0, r37) ∷ (1, r37) ∷ (2, r3) ∷ (3, r25) ∷ (4, r5) ∷ (5, L.h64) ∷ (6, L.hbool) ∷ (7, r19) ∷ (8, L.h64) ∷ (9, r42) ∷ (10, r39) ∷
+    (11, Rows'.sc-shr r41 (Array'.Array L.u64 32) (λ x. x) 13) ∷ (12, r15) ∷ (13, r32) ∷ (14, r26) ∷ (15, r35) ∷ []
+
+abbrev t51 : List.List Row.Entry
+t51 = (16, r15) ∷ (17, L.gunit) ∷ (18, r32) ∷ (19, r26) ∷ (20, r15) ∷ (21, r24) ∷ (22, r20) ∷ (23, r17) ∷ (24, r33) ∷ (25, r27) ∷ (26, r10) ∷ (27, r9) ∷ []
 
 abbrev on : Nat.ℕ → Row.Row → Row.Cx → Row.Cx
 on n r Γ = record { locals = Row.setRow n (n, r) (Γ .locals); slots = Γ .slots }
@@ -327,28 +435,28 @@ abbrev T0 : Row.Cx
 T0 = record { locals = List._++_ t0 t1; slots = [] }
 
 abbrev T1 : Row.Cx
-T1 = on 6 L.gbool (on 5 L.g64 (on 1 r40 (on 0 r37 T0)))
+T1 = record { locals = List._++_ t2 t1; slots = [] }
 
 abbrev T4 : Row.Cx
-T4 = on 12 r7 (on 2 (Reshare.mref-owedS (Array'.Array L.u64 928) y0 0 4 Row.off) T0)
+T4 = on 12 r7 (on 2 r0 T0)
 
 abbrev T5 : Row.Cx
 T5 = on 8 L.h64 T4
 
 abbrev T6 : Row.Cx
-T6 = on 12 r15 T5
+T6 = on 8 L.h64 (on 2 r0 T0)
 
 abbrev T8 : Row.Cx
 T8 = on 2 r4 T6
 
 abbrev T11 : Row.Cx
-T11 = on 13 r28 (on 3 r13 T8)
+T11 = on 13 r28 (on 8 L.h64 (on 3 r13 T0))
 
 abbrev T12 : Row.Cx
-T12 = on 14 (Rows'.sslice S.row y10 5) (on 3 r13 T8)
+T12 = on 14 r29 (on 8 L.h64 (on 3 r13 T0))
 
 abbrev T13 : Row.Cx
-T13 = on 9 S.here T12
+T13 = record { locals = List._++_ t9 t1; slots = [] }
 
 abbrev T14 : Row.Cx
 T14 = on 14 r26 T13
@@ -357,10 +465,10 @@ abbrev T16 : Row.Cx
 T16 = on 3 r25 T14
 
 abbrev T19 : Row.Cx
-T19 = on 16 (Rows'.sref (Array'.Array L.u64 928) y2 6) (on 2 r1 T16)
+T19 = record { locals = List._++_ t12 t13; slots = [] }
 
 abbrev T20 : Row.Cx
-T20 = on 16 (Rows'.sref (Array'.Array L.u64 928) y2 6) (on 15 (Rows'.whole (Declared.row NotAliveGenerationCounts.the-type)) (on 9 S.here (on 2 r1 T6)))
+T20 = on 15 r21 T19
 
 abbrev T21 : Row.Cx
 T21 = on 16 r15 T20
@@ -369,13 +477,13 @@ abbrev T23 : Row.Cx
 T23 = on 2 r4 T21
 
 abbrev T25 : Row.Cx
-T25 = on 10 r36 T23
+T25 = record { locals = List._++_ t16 t1; slots = [] }
 
 abbrev T26 : Row.Cx
 T26 = on 9 r42 T25
 
 abbrev T27 : Row.Cx
-T27 = on 10 r36 T8
+T27 = on 15 r35 T26
 
 abbrev T28 : Row.Cx
 T28 = on 11 (Rows'.whole (Array'.Array L.u64 32)) T27
@@ -384,88 +492,88 @@ abbrev T29 : Row.Cx
 T29 = on 11 r41 T27
 
 abbrev T31 : Row.Cx
-T31 = on 18 (Relend.ssptr S.row y10 7) (on 3 r14 T29)
+T31 = record { locals = List._++_ t21 t22; slots = [] }
 
 abbrev T32 : Row.Cx
-T32 = on 19 r30 (on 3 r14 T29)
+T32 = on 19 r30 (on 18 r32 T31)
 
 abbrev T34 : Row.Cx
-T34 = on 20 r8 (on 2 r2 T32)
+T34 = record { locals = List._++_ t24 t25; slots = [] }
 
 abbrev T36 : Row.Cx
-T36 = on 21 (Relend.msptr L.u64 y7 9) (on 20 r8 (on 19 r30 (on 11 r41 (on 10 r36 (on 7 r12 (on 3 r14 (on 2 r2 T6)))))))
+T36 = on 21 (Relend.msptr L.u64 y7 9) (on 7 r12 T34)
 
 abbrev T37 : Row.Cx
-T37 = on 22 r22 (on 20 r8 (on 19 r30 (on 11 r41 (on 10 r36 (on 7 r12 (on 3 r14 (on 2 r2 T6)))))))
+T37 = on 22 r22 (on 7 r12 T34)
 
 abbrev T39 : Row.Cx
-T39 = on 23 (Rows'.mref (Array'.Array L.u64 32) y4 10) (on 22 r22 (on 20 r8 (on 19 r30 (on 11 r38 (on 10 r36 (on 8 L.h64 (on 7 r12 (on 3 r14 (on 2 r2 T0)))))))))
+T39 = record { locals = List._++_ t29 t30; slots = [] }
 
 abbrev T40 : Row.Cx
-T40 = on 23 r11 (on 22 r23 (on 20 r8 (on 19 r30 (on 17 L.hunit (on 11 r38 (on 10 r36 (on 8 L.h64 (on 7 r12 (on 3 r14 (on 2 r2 T0))))))))))
+T40 = on 23 r11 (on 22 r23 (on 17 L.hunit T39))
 
 abbrev T41 : Row.Cx
-T41 = on 19 r26 T40
+T41 = record { locals = List._++_ t29 t32; slots = [] }
 
 abbrev T42 : Row.Cx
-T42 = on 23 r11 (on 22 r23 (on 17 L.hunit (on 11 r38 (on 10 r36 (on 7 r12 (on 3 r14 (on 2 r2 T6)))))))
+T42 = on 20 r15 T41
 
 abbrev T43 : Row.Cx
-T43 = on 23 r11 (on 22 r23 (on 17 L.hunit (on 11 r38 (on 7 r12 (on 3 r14 (on 2 r2 T6))))))
+T43 = on 10 r39 T42
 
 abbrev T44 : Row.Cx
 T44 = on 17 L.gunit T43
 
 abbrev T46 : Row.Cx
-T46 = on 23 r11 (on 22 r23 (on 11 r38 (on 7 r12 (on 2 r2 T6))))
+T46 = record { locals = List._++_ t36 t35; slots = [] }
 
 abbrev T49 : Row.Cx
 T49 = on 2 r4 T46
 
 abbrev T52 : Row.Cx
-T52 = on 23 r11 (on 11 r38 T8)
+T52 = on 22 r20 (on 7 r19 T49)
 
 abbrev T56 : Row.Cx
-T56 = on 11 r41 T8
+T56 = on 11 r41 (on 8 L.h64 T0)
 
 abbrev T59 : Row.Cx
-T59 = on 24 (Relend.msptr S.row y11 11) (on 3 (Relend.mslice-owed S.row y9 1 11 Row.off) T56)
+T59 = record { locals = List._++_ t41 t42; slots = [] }
 
 abbrev T60 : Row.Cx
 T60 = on 25 (Mut.mslice S.row y11 11) (on 24 r33 T59)
 
 abbrev T61 : Row.Cx
-T61 = on 25 r31 (on 17 L.hunit T60)
+T61 = on 25 r31 (on 24 r33 (on 17 L.hunit T59))
 
 abbrev T62 : Row.Cx
 T62 = on 25 r31 T60
 
 abbrev T67 : Row.Cx
-T67 = on 26 r6 (on 2 r3 T56)
+T67 = record { locals = List._++_ t46 t47; slots = [] }
 
 abbrev T69 : Row.Cx
 T69 = on 27 r9 (on 11 (Rows'.sc-shr r41 (Array'.Array L.u64 32) (λ x. x) 13) T67)
 
 abbrev T70 : Row.Cx
-T70 = on 26 r10 (on 0 r37 T69)
+T70 = record { locals = List._++_ t50 t51; slots = [] }
 
 abbrev T71 : Row.Cx
-T71 = on 26 r10 (on 11 (Rows'.sc-shr r41 (Array'.Array L.u64 32) (λ x. x) 13) (on 0 r37 T67))
+T71 = on 27 r18 T70
 
 abbrev T72 : Row.Cx
 T72 = on 1 r40 T71
 
 abbrev T73 : Row.Cx
-T73 = on 26 r10 (on 11 (Rows'.sc-shr r41 (Array'.Array L.u64 32) (λ x. x) 13) (on 2 r3 (on 1 r40 (on 0 r37 T0))))
+T73 = on 8 L.g64 T72
 
 abbrev T75 : Row.Cx
-T75 = on 26 r16 (on 2 r4 T73)
+T75 = on 11 (Rows'.sc-shr r41 (Array'.Array L.u64 32) (λ x. x) 13) (on 1 r40 (on 0 r37 T0))
 
 abbrev T78 : Row.Cx
-T78 = on 11 r41 T75
+T78 = on 11 r41 (on 1 r40 (on 0 r37 T0))
 
 abbrev T80 : Row.Cx
-T80 = on 11 r34 T75
+T80 = on 1 r40 (on 0 r37 T0)
 
 abbrev T81 : Row.Cx
 T81 = on 5 L.g64 T80
@@ -703,9 +811,17 @@ module _ (cl : Claims) where
       abbrev z0 : List.List Row.Life
       z0 = l0 ∷ l1 ∷ Row.lease (κs .1 .1 .0) (qs .1 .1 .0) ∷ l2 ∷ Row.off ∷ Row.off ∷ Row.off ∷ Row.off ∷ Row.off ∷ Row.off ∷ Row.off ∷ Row.off ∷ Row.off ∷ Row.off ∷ []
 
+      abbrev g29 : List.List Row.Entry
+      g29 = (0, r40) ∷ (1, r37) ∷ (2, Reshare.mref-owedS (Array'.Array L.u64 928) y0 0 8 l0) ∷ (3, Reshare'.mslice-owedS S.row y9 1 7 l1) ∷ (4, r5) ∷ (5, L.h64) ∷ (6, L.hbool) ∷
+          (7, Relend.mslice-owed L.u64 y6 3 9 l2) ∷ (8, L.h64) ∷ (9, r42) ∷ (10, r36) ∷ (11, r38) ∷ (12, r15) ∷ (13, r32) ∷ (14, r26) ∷ (15, r35) ∷ []
+
+      abbrev g41 : List.List Row.Entry
+      g41 = (0, r40) ∷ (1, r37) ∷ (2, r4) ∷ (3, Relend.mslice-owed S.row y9 1 11 l1) ∷ (4, r5) ∷ (5, L.h64) ∷ (6, L.hbool) ∷ (7, r19) ∷ (8, L.h64) ∷ (9, r42) ∷ (10, r39) ∷ (11, r41) ∷
+          (12, r15) ∷ (13, r32) ∷ (14, r26) ∷ (15, r35) ∷ []
+
       abbrev G61 : Row.Cx
-      G61 = lives (l0 ∷ Row.off ∷ Row.lease (κs .1 .1 .0) (qs .1 .1 .0) ∷ l2 ∷ Row.off ∷ Row.off ∷ Row.off ∷ Row.off ∷ Row.off ∷ Row.off ∷ Row.off ∷ Row.alive ∷ Row.off ∷ Row.off ∷ []) (on
-          25 r31 (on 17 L.hunit (on 3 (Relend.mslice-owed S.row y9 1 11 l1) T56)))
+      G61 = record
+          { locals = List._++_ g41 t44; slots = (l0 ∷ Row.off ∷ Row.lease (κs .1 .1 .0) (qs .1 .1 .0) ∷ l2 ∷ Row.off ∷ Row.off ∷ Row.off ∷ Row.off ∷ Row.off ∷ Row.off ∷ Row.off ∷ Row.alive ∷ Row.off ∷ Row.off ∷ []) }
 
       abbrev Δ0 : Typed.Outs
       Δ0 = record { next = Option.none; exits = []; returns = Option.some (lives z0 T1) }
@@ -719,13 +835,13 @@ module _ (cl : Claims) where
             (Rows'.whole R) R (λ x. x) (λ x. x)
         copied R one c = Yields.yields-copy U H A W (λ ρ. Unit) R one c (Rows'.whole R) (λ x. x) (λ x. x) (λ ρ told. Local.mem-whole U H A W R ρ) λ ρ told. Local.whole-mem U H A W R ρ
 
-        pre : {Γ Γ₁ : Row.Cx} {b : Y.Body} {Δ : Typed.Outs} {φ : Typed.Tf Γ Γ₁} {Φ : Typed.TF Γ₁ Δ} → Typed.Ghost U H A E Γ Γ₁ φ → Typed.Typed U H A C E Γ₁ b Δ Φ → Typed.Typed U H A C E Γ b
+        pre : {Γ Γ₁ : Row.Cx} {b : Y.Body} {Δ : Typed.Outs} {Φ : Typed.TF Γ₁ Δ} (φ : Typed.Tf Γ Γ₁) → Typed.Ghost U H A E Γ Γ₁ φ → Typed.Typed U H A C E Γ₁ b Δ Φ → Typed.Typed U H A C E Γ b
             Δ (λ Ψ. φ (Φ Ψ))
-        pre = Typed.g-pre U H A W C E _ _ _ _ _ _
+        pre φ = Typed.g-pre U H A W C E _ _ _ _ φ _
 
-        seq : {Γ Γ₁ : Row.Cx} {a b : Y.Body} {Δ : Typed.Outs} {φ : Typed.Tf Γ Γ₁} {Φ : Typed.TF Γ₁ Δ} → Typed.Stmt U H A C E Γ a Γ₁ φ → Typed.Typed U H A C E Γ₁ b Δ Φ → Typed.Typed U H A C E
+        seq : {Γ Γ₁ : Row.Cx} {a b : Y.Body} {Δ : Typed.Outs} {Φ : Typed.TF Γ₁ Δ} (φ : Typed.Tf Γ Γ₁) → Typed.Stmt U H A C E Γ a Γ₁ φ → Typed.Typed U H A C E Γ₁ b Δ Φ → Typed.Typed U H A C E
             Γ (Y.seq a b) Δ (λ Ψ. φ (Φ Ψ))
-        seq = Typed.s-seq U H A W C E _ _ _ _ _ _ _
+        seq φ = Typed.s-seq U H A W C E _ _ _ _ _ φ _
 
         begin : {Γ : Row.Cx} (α : Nat.ℕ) → Row.Fresh α (Γ .locals) → Typed.Ghost U H A E Γ (Lifetime.Begun Γ α) (Typed.pass Γ (Lifetime.Begun Γ α) (λ u. u))
         begin = Lifetime.g-begin U H A W E _
@@ -741,38 +857,41 @@ module _ (cl : Claims) where
 
         d7 : Typed.Typed U H A C E (lives (l0 ∷ l1 ∷ Row.lease (κs .1 .1 .0) (qs .1 .1 .0) ∷ l2 ∷ Row.off ∷ Row.off ∷ Row.off ∷ Row.off ∷ Row.off ∷ Row.off ∷ Row.off ∷ Row.off ∷ Row.dead ∷
             Row.alive ∷ []) T75) b22 Δ0 at7
-        d7 = pre (Lifetime.g-forget U H A W E _ 12 Row.dead refl) (pre (end 13 refl) (pre (Local.g-back-shr U H A W E _ 11 13 r41 (Array'.Array L.u64 32) (λ x. x) (λ x. x) (as-is
-            (Rows'.sc-shr r41 (Array'.Array L.u64 32) (λ x. x) 13)) (Local.home-of U H A r41 (Array'.Array L.u64 32) (λ x. x) (λ x. x) (Whole.arr-mem U H A W L.u64 32 tt) λ x k. refl) refl)
-            (pre (Lifetime.g-forget U H A W E _ 13 Row.dead refl) (pre (Scalar.g-room U H A W E _ 11 y14 (Init.room-arr U H A W L.u64 32 0 32 refl)) (pre (Scalar.g-room U H A W E _ 5
-            (Y.tyInt Y.w64) (Scalar.room-sc U H A W (Row.sInt Y.w64))) (pre (Scalar.g-room U H A W E _ 6 Y.tyBool (Scalar.room-sc U H A W Row.sBool)) (Typed.t-return U H A W C E Δ0 tt)))))))
+        d7 = pre (λ Ψ. Ψ) (Lifetime.g-forget U H A W E _ 12 Row.dead refl) (pre (λ Ψ. Ψ) (end 13 refl) (pre (Typed.pass T75 T78 s76) (Local.g-back-shr U H A W E _ 11 13 r41 (Array'.Array
+            L.u64 32) (λ x. x) (λ x. x) (as-is (Rows'.sc-shr r41 (Array'.Array L.u64 32) (λ x. x) 13)) (Local.home-of U H A r41 (Array'.Array L.u64 32) (λ x. x) (λ x. x) (Whole.arr-mem U H A
+            W L.u64 32 tt) λ x k. refl) refl) (pre (λ Ψ. Ψ) (Lifetime.g-forget U H A W E _ 13 Row.dead refl) (pre (Typed.pass T78 T80 s78) (Scalar.g-room U H A W E _ 11 y14 (Init.room-arr U
+            H A W L.u64 32 0 32 refl)) (pre (Typed.pass T80 T81 s79) (Scalar.g-room U H A W E _ 5 (Y.tyInt Y.w64) (Scalar.room-sc U H A W (Row.sInt Y.w64))) (pre (Typed.pass T81 T1 s80)
+            (Scalar.g-room U H A W E _ 6 Y.tyBool (Scalar.room-sc U H A W Row.sBool)) (Typed.t-return U H A W C E Δ0 tt)))))))
 
         d12 : Typed.Typed U H A C E (lives (Row.off ∷ l1 ∷ Row.lease (κs .1 .1 .0) (qs .1 .1 .0) ∷ l2 ∷ Row.off ∷ Row.off ∷ Row.off ∷ Row.off ∷ Row.off ∷ Row.off ∷ Row.off ∷ Row.off ∷
-            Row.alive ∷ Row.alive ∷ []) (on 27 r9 (on 8 L.h64 (on 2 (Rows'.mref-owed (Array'.Array L.u64 928) y0 0 12 l0) (on 1 r37 T73))))) b22 Δ0 at12
-        d12 = pre (Local.g-drop-sref U H A W E _ 27 13 (Array'.Array L.u64 32) y5 (λ x. x) (as-is r9)) (pre (Scalar.g-room U H A W E _ 1 Cache′.mir (Local.room-whole U H A W (Declared.row
-            Cache.the-type) Cache′.mir refl)) (pre (Scalar.g-room U H A W E _ 8 (Y.tyInt Y.w64) (Scalar.room-sc U H A W (Row.sInt Y.w64))) (pre (end 12 refl) (pre (Reborrow.g-back-mref U H A
-            W E _ 26 2 0 12 (Array'.Array L.u64 928) y0 y3 l0 (λ x. x) (λ x. x) (as-is r10) (as-is (Rows'.mref-owed (Array'.Array L.u64 928) y0 0 12 l0)) refl refl) d7))))
+            Row.alive ∷ Row.alive ∷ []) (on 2 (Rows'.mref-owed (Array'.Array L.u64 928) y0 0 12 l0) T70)) b22 Δ0 at12
+        d12 = pre (Typed.pass T70 T71 s69) (Local.g-drop-sref U H A W E _ 27 13 (Array'.Array L.u64 32) y5 (λ x. x) (as-is r9)) (pre (Typed.pass T71 T72 s70) (Scalar.g-room U H A W E _ 1
+            Cache′.mir (Local.room-whole U H A W (Declared.row Cache.the-type) Cache′.mir refl)) (pre (Typed.pass T72 T73 s71) (Scalar.g-room U H A W E _ 8 (Y.tyInt Y.w64) (Scalar.room-sc U
+            H A W (Row.sInt Y.w64))) (pre (λ Ψ. Ψ) (end 12 refl) (pre (Typed.ask s73) (Reborrow.g-back-mref U H A W E _ 26 2 0 12 (Array'.Array L.u64 928) y0 y3 l0 (λ x. x) (λ x. x) (as-is
+            r10) (as-is (Rows'.mref-owed (Array'.Array L.u64 928) y0 0 12 l0)) refl refl) d7))))
 
         d20 : Typed.Typed U H A C E (on 17 L.gunit G61) b25 Δ0 at20
-        d20 = pre (end 11 refl) (pre (Relend.g-back-sl U H A W E S.row _ 25 3 1 11 y9 y11 l1 (λ x. x) (λ x. x) (as-is r31) (as-is (Relend.mslice-owed S.row y9 1 11 l1)) refl refl) (pre
-            (Lifetime.g-forget U H A W E _ 11 Row.dead refl) (pre (begin 12 _) (seq (Reborrow.t-mref-relend U H A W E C _ 2 26 0 12 (Array'.Array L.u64 928) y12 y0 y3 l0 (λ x. x) (as-is r4)
-            (gone y3) refl tt refl refl λ b o. tt) (pre (begin 13 _) (seq (Local.t-sc-share U H A W E C _ 11 27 13 (Array'.Array L.u64 32) y5 (λ x. x) (Whole.mem-arr U H A W L.u64 32) (gone
-            y5) refl λ b o. tt) (seq (Plain.t-call-plain U H A W C 3 ps·6 r·6 (cl .12) (cl .13) "access::settle" (known .6) E (λ pos β. β) _
+        d20 = pre (λ Ψ. Ψ) (end 11 refl) (pre (Typed.both s62) (Relend.g-back-sl U H A W E S.row _ 25 3 1 11 y9 y11 l1 (λ x. x) (λ x. x) (as-is r31) (as-is (Relend.mslice-owed S.row y9 1 11
+            l1)) refl refl) (pre (λ Ψ. Ψ) (Lifetime.g-forget U H A W E _ 11 Row.dead refl) (pre (λ Ψ. Ψ) (begin 12 _) (seq (Typed.give s65) (Reborrow.t-mref-relend U H A W E C _ 2 26 0 12
+            (Array'.Array L.u64 928) y12 y0 y3 l0 (λ x. x) (as-is r4) (gone y3) refl tt refl refl λ b o. tt) (pre (λ Ψ. Ψ) (begin 13 _) (seq (Typed.give s67) (Local.t-sc-share U H A W E C _
+            11 27 13 (Array'.Array L.u64 32) y5 (λ x. x) (Whole.mem-arr U H A W L.u64 32) (gone y5) refl λ b o. tt) (seq (Typed.both s68) (Plain.t-call-plain U H A W C 3 ps·6 r·6 (cl .12)
+            (cl .13) "access::settle" (known .6) E (λ pos β. β) _
             (record { pos = 1; st = []; d = 0; at = λ x. x }, (record { pos = 26; ty = y3; ref = λ x. x }, (record { pos = 4; ty = y1; ref = λ x. x }, (Num.vAt 5 λ x. x, (Bool.bAt 6 λ x. x, (record { pos = 27; ty = y5; ref = λ x. x }, tt))))))
             0 (12 ∷ 2 ∷ 13 ∷ []) (Call.sub-id U H A W _)
             ((copied (Declared.row Cache.the-type) refl (Copies.cStruct Cache.the-type Cache′.the-laws Cache′.the-copy .copy U H A W), refl), (as-is r6, Reads.reads-mref U H A W (Array'.Array L.u64 928) y3 12, refl, (ShrRef.spares-sref U H A W (Array'.Array L.u64 256) y1 2, Reads.reads-sref U H A W (Array'.Array L.u64 256) y1 2, refl, ((Scalar.reads-sc U H A W (Row.sInt Y.w64), refl), ((Scalar.reads-sc U H A W Row.sBool, refl), (ShrRef.spares-sref U H A W (Array'.Array L.u64 32) y5 13, Reads.reads-sref U H A W (Array'.Array L.u64 32) y5 13, refl, tt))))))
             (gone Cache′.mir) (tt, (tt, (tt, tt))) refl) d12)))))))
 
         d21 : Typed.Typed U H A C E G61 b25 Δ0 at21
-        d21 = pre (Scalar.g-room U H A W E _ 17 Y.tyUnit (Scalar.room-sc U H A W Row.sUnit)) d20
+        d21 = pre (Typed.pass T61 T62 s60) (Scalar.g-room U H A W E _ 17 Y.tyUnit (Scalar.room-sc U H A W Row.sUnit)) d20
 
         d29 : Typed.Typed U H A C E (lives (l0 ∷ l1 ∷ Row.lease (κs .1 .1 .0) (qs .1 .1 .0) ∷ l2 ∷ Row.off ∷ Row.off ∷ Row.off ∷ Row.off ∷ Row.off ∷ Row.dead ∷ Row.alive ∷ Row.off ∷ Row.off
             ∷ Row.off ∷ []) T52) b28 Δ0 at29
-        d29 = pre (Lifetime.g-forget U H A W E _ 9 Row.dead refl) (pre (end 10 refl) (pre (Local.g-back-sc U H A W E _ 23 11 10 (Array'.Array L.u64 32) y4 r41 (λ x. x) (λ x. x) (λ x. x)
-            (as-is r11) (as-is r38) (Whole.arr-mem U H A W L.u64 32 tt) refl) (pre (Lifetime.g-forget U H A W E _ 10 Row.dead refl) (pre (begin 11 _) (seq (Relend.t-sl-relend U H A W E S.row
-            C _ 3 24 1 11 y9 y11 l1 0 (λ x. x) (as-is r25) (gone y11) refl tt refl refl refl λ b o. tt) (seq (Relend.t-sl-aggregate U H A W E S.row C (Relend.asMut S.row) _ 24 25 11 y11 y11
-            (λ x. x) (Scalar.oFld 3 (Y.field 1 ∷ []) (Y.tyInt Y.w64) 8 λ v. Shared.lenV (v .0)) (as-is (Relend.msptr S.row y11 11)) (gone (L.sl y11))
-            (Relend.reads-owed-len U H A W S.row y9 1 11 l1 8 refl, refl) refl refl λ b o k. tt) (seq (Plain.t-call-plain U H A W C 2 ps·5 r·5 (cl .10) (cl .11)
-            "datasample_access::touch_all" (known .5) E (λ pos β. β) _
+        d29 = pre (λ Ψ. Ψ) (Lifetime.g-forget U H A W E _ 9 Row.dead refl) (pre (λ Ψ. Ψ) (end 10 refl) (pre (Typed.ask s54) (Local.g-back-sc U H A W E _ 23 11 10 (Array'.Array L.u64 32) y4
+            r41 (λ x. x) (λ x. x) (λ x. x) (as-is r11) (as-is r38) (Whole.arr-mem U H A W L.u64 32 tt) refl) (pre (λ Ψ. Ψ) (Lifetime.g-forget U H A W E _ 10 Row.dead refl) (pre (λ Ψ. Ψ)
+            (begin 11 _) (seq (Typed.give s57) (Relend.t-sl-relend U H A W E S.row C _ 3 24 1 11 y9 y11 l1 0 (λ x. x) (as-is r25) (gone y11) refl tt refl refl refl λ b o. tt) (seq (Typed.ask
+            s58) (Relend.t-sl-aggregate U H A W E S.row C (Relend.asMut S.row) _ 24 25 11 y11 y11 (λ x. x) (Scalar.oFld 3 (Y.field 1 ∷ []) (Y.tyInt Y.w64) 8 λ v. Shared.lenV (v .0)) (as-is
+            (Relend.msptr S.row y11 11)) (gone (L.sl y11)) (Relend.reads-owed-len U H A W S.row y9 1 11 l1 8 refl, refl) refl refl λ b o k. tt) (seq (Typed.both s59) (Plain.t-call-plain U H
+            A W C 2 ps·5 r·5 (cl .10) (cl .11) "datasample_access::touch_all" (known .5) E (λ pos β. β) _
             (record { pos = 25; ty = y11; ref = λ x. x }, (record { pos = 4; ty = y1; ref = λ x. x }, (Num.vAt 5 λ x. x, (Bool.bAt 6 λ x. x, tt)))) 17 (11 ∷ 2 ∷ []) (Call.sub-id U H A W _)
             (as-is (Mut.mslice S.row y11 11), Mut.reads-mslice U H A W S.row y11 11, refl, (ShrRef.spares-sref U H A W (Array'.Array L.u64 256) y1 2, Reads.reads-sref U H A W (Array'.Array L.u64 256) y1 2, refl, ((Scalar.reads-sc U H A W (Row.sInt Y.w64), refl), ((Scalar.reads-sc U H A W Row.sBool, refl), tt))))
             (gone Y.tyUnit) (tt, (tt, tt)) refl) d21)))))))
@@ -780,76 +899,79 @@ module _ (cl : Claims) where
         d37 : Typed.Typed U H A C E (lives (Row.off ∷ Row.off ∷ Row.lease (κs .1 .1 .0) (qs .1 .1 .0) ∷ Row.off ∷ Row.off ∷ Row.off ∷ Row.off ∷ Row.dead ∷ Row.alive ∷ Row.alive ∷ Row.alive ∷
             Row.off ∷ Row.off ∷ Row.off ∷ []) (on 7 (Relend.mslice-owed L.u64 y6 3 9 l2) (on 3 (Reshare'.mslice-owedS S.row y9 1 7 l1) (on 2 (Reshare.mref-owedS (Array'.Array L.u64 928) y0 0
             8 l0) T46)))) b28 Δ0 at37
-        d37 = pre (Reshare'.g-back-sl-shr U H A W E S.row _ 3 1 7 y9 l1 (λ x. x) (as-is (Reshare'.mslice-owedS S.row y9 1 7 l1)) refl refl) (pre (Lifetime.g-forget U H A W E _ 7 Row.dead
-            refl) (pre (end 8 refl) (pre (Reshare.g-back-mref-shr U H A W E _ 2 0 8 (Array'.Array L.u64 928) y0 l0 (λ x. x) (as-is (Reshare.mref-owedS (Array'.Array L.u64 928) y0 0 8 l0))
-            refl refl) (pre (Lifetime.g-forget U H A W E _ 8 Row.dead refl) (pre (end 9 refl) (pre (Relend.g-back-sl U H A W E L.u64 _ 22 7 3 9 y6 y7 l2 (λ x. x) (λ x. x) (as-is r23) (as-is
-            (Relend.mslice-owed L.u64 y6 3 9 l2)) refl refl) (pre (Know.g-sl-known U H A W (Referent.fInt Y.w64) E _ 7 3 y6 l2 0 (λ x. x) record { fits = Dec'.lit< tt } (as-is r19) refl tt)
-            d29)))))))
+        d37 = pre (Typed.pass T44 T46 s44) (Reshare'.g-back-sl-shr U H A W E S.row _ 3 1 7 y9 l1 (λ x. x) (as-is (Reshare'.mslice-owedS S.row y9 1 7 l1)) refl refl) (pre (λ Ψ. Ψ)
+            (Lifetime.g-forget U H A W E _ 7 Row.dead refl) (pre (λ Ψ. Ψ) (end 8 refl) (pre (Typed.pass T46 T49 s47) (Reshare.g-back-mref-shr U H A W E _ 2 0 8 (Array'.Array L.u64 928) y0 l0
+            (λ x. x) (as-is (Reshare.mref-owedS (Array'.Array L.u64 928) y0 0 8 l0)) refl refl) (pre (λ Ψ. Ψ) (Lifetime.g-forget U H A W E _ 8 Row.dead refl) (pre (λ Ψ. Ψ) (end 9 refl) (pre
+            (Typed.both s50) (Relend.g-back-sl U H A W E L.u64 _ 22 7 3 9 y6 y7 l2 (λ x. x) (λ x. x) (as-is r23) (as-is (Relend.mslice-owed L.u64 y6 3 9 l2)) refl refl) (pre (Typed.give s51)
+            (Know.g-sl-known U H A W (Referent.fInt Y.w64) E _ 7 3 y6 l2 0 (λ x. x) record { fits = Dec'.lit< tt } (as-is r19) refl tt) d29)))))))
 
-        d42 : Typed.Typed U H A C E (lives (Row.off ∷ Row.off ∷ Row.lease (κs .1 .1 .0) (qs .1 .1 .0) ∷ Row.off ∷ Row.off ∷ Row.off ∷ Row.off ∷ Row.alive ∷ Row.alive ∷ Row.alive ∷ Row.alive
-            ∷ Row.off ∷ Row.off ∷ Row.off ∷ []) (on 23 r11 (on 22 r23 (on 20 r8 (on 19 r30 (on 17 L.hunit (on 11 r38 (on 10 r36 (on 8 L.h64 (on 7 (Relend.mslice-owed L.u64 y6 3 9 l2) (on 3
-            (Reshare'.mslice-owedS S.row y9 1 7 l1) (on 2 (Reshare.mref-owedS (Array'.Array L.u64 928) y0 0 8 l0) T0)))))))))))) b28 Δ0 at42
-        d42 = pre (Scalar.g-room U H A W E _ 19 y8 (Shared.room-sslice U H A W S.row y10 7)) (pre (Local.g-drop-sref U H A W E _ 20 8 (Array'.Array L.u64 928) y2 (λ x. x) (as-is r8)) (pre
-            (Scalar.g-room U H A W E _ 10 Ranking′.mir (Local.room-whole U H A W (Declared.row Ranking.the-type) Ranking′.mir refl)) (pre (Scalar.g-room U H A W E _ 17 Y.tyUnit
-            (Scalar.room-sc U H A W Row.sUnit)) (pre (end 7 refl) d37))))
+        d42 : Typed.Typed U H A C E (record
+            { locals = List._++_ g29 t31; slots = (Row.off ∷ Row.off ∷ Row.lease (κs .1 .1 .0) (qs .1 .1 .0) ∷ Row.off ∷ Row.off ∷ Row.off ∷ Row.off ∷ Row.alive ∷ Row.alive ∷ Row.alive ∷ Row.alive ∷ Row.off ∷ Row.off ∷ Row.off ∷ []) })
+            b28 Δ0 at42
+        d42 = pre (Typed.pass T40 T41 s39) (Scalar.g-room U H A W E _ 19 y8 (Shared.room-sslice U H A W S.row y10 7)) (pre (Typed.pass T41 T42 s40) (Local.g-drop-sref U H A W E _ 20 8
+            (Array'.Array L.u64 928) y2 (λ x. x) (as-is r8)) (pre (Typed.pass T42 T43 s41) (Scalar.g-room U H A W E _ 10 Ranking′.mir (Local.room-whole U H A W (Declared.row
+            Ranking.the-type) Ranking′.mir refl)) (pre (Typed.pass T43 T44 s42) (Scalar.g-room U H A W E _ 17 Y.tyUnit (Scalar.room-sc U H A W Row.sUnit)) (pre (λ Ψ. Ψ) (end 7 refl) d37))))
 
         d50 : Typed.Typed U H A C E (lives (l0 ∷ Row.off ∷ Row.lease (κs .1 .1 .0) (qs .1 .1 .0) ∷ l2 ∷ Row.off ∷ Row.off ∷ Row.off ∷ Row.alive ∷ Row.off ∷ Row.off ∷ Row.off ∷ Row.off ∷
             Row.off ∷ Row.off ∷ []) (on 3 (Reshare'.mslice-owedS S.row y9 1 7 l1) T32)) b33 Δ0 at50
-        d50 = pre (begin 8 _) (seq (Reshare.t-mref-reshare U H A W E C _ 2 20 0 8 (Array'.Array L.u64 928) y12 y0 y2 l0 (λ x. x) (as-is r4) (gone y2) refl tt refl refl λ b o. tt) (pre (begin
-            9 _) (seq (Relend.t-sl-relend U H A W E L.u64 C _ 7 21 3 9 y6 y7 l2 0 (λ x. x) (as-is r19) (gone y7) refl tt refl refl refl λ b o. tt) (seq (Relend.t-sl-aggregate U H A W E L.u64
-            C (Relend.asMut L.u64) _ 21 22 9 y7 y7 (λ x. x) (Scalar.oFld 7 (Y.field 1 ∷ []) (Y.tyInt Y.w64) 8 λ v. Shared.lenV (v .0)) (as-is (Relend.msptr L.u64 y7 9)) (gone (L.sl y7))
-            (Relend.reads-owed-len U H A W L.u64 y6 3 9 l2 8 refl, refl) refl refl λ b o k. tt) (pre (begin 10 _) (seq (Local.t-sc-borrow U H A W E C _ 11 23 10 (Array'.Array L.u64 32) y4 (λ
-            x. x) (Whole.mem-arr U H A W L.u64 32) (gone y4) refl λ b o. tt) (seq (Plain.t-call-plain U H A W C 5 ps·4 r·4 (cl .8) (cl .9) "datasample_access::collect" (known .4) E (λ pos β.
-            β) _
+        d50 = pre (λ Ψ. Ψ) (begin 8 _) (seq (Typed.give s32) (Reshare.t-mref-reshare U H A W E C _ 2 20 0 8 (Array'.Array L.u64 928) y12 y0 y2 l0 (λ x. x) (as-is r4) (gone y2) refl tt refl
+            refl λ b o. tt) (pre (λ Ψ. Ψ) (begin 9 _) (seq (Typed.give s34) (Relend.t-sl-relend U H A W E L.u64 C _ 7 21 3 9 y6 y7 l2 0 (λ x. x) (as-is r19) (gone y7) refl tt refl refl refl
+            λ b o. tt) (seq (Typed.ask s35) (Relend.t-sl-aggregate U H A W E L.u64 C (Relend.asMut L.u64) _ 21 22 9 y7 y7 (λ x. x) (Scalar.oFld 7 (Y.field 1 ∷ []) (Y.tyInt Y.w64) 8 λ v.
+            Shared.lenV (v .0)) (as-is (Relend.msptr L.u64 y7 9)) (gone (L.sl y7)) (Relend.reads-owed-len U H A W L.u64 y6 3 9 l2 8 refl, refl) refl refl λ b o k. tt) (pre (λ Ψ. Ψ) (begin 10
+            _) (seq (Typed.give s37) (Local.t-sc-borrow U H A W E C _ 11 23 10 (Array'.Array L.u64 32) y4 (λ x. x) (Whole.mem-arr U H A W L.u64 32) (gone y4) refl λ b o. tt) (seq (Typed.both
+            s38) (Plain.t-call-plain U H A W C 5 ps·4 r·4 (cl .8) (cl .9) "datasample_access::collect" (known .4) E (λ pos β. β) _
             (record { pos = 19; ty = y10; ref = λ x. x }, (record { pos = 20; ty = y2; ref = λ x. x }, (record { pos = 4; ty = y1; ref = λ x. x }, (Num.vAt 5 λ x. x, (record { pos = 10; st = []; d = 0; at = λ x. x }, (record { pos = 22; ty = y7; ref = λ x. x }, (record { pos = 23; ty = y4; ref = λ x. x }, tt)))))))
             17 (7 ∷ 8 ∷ 2 ∷ 9 ∷ 10 ∷ []) (Call.sub-id U H A W _)
             (ShrSlice.spares-sslice U H A W S.row y10 7, Shared.reads-sslice U H A W S.row y10 7, refl, (ShrRef.spares-sref U H A W (Array'.Array L.u64 928) y2 8, Reads.reads-sref U H A W (Array'.Array L.u64 928) y2 8, refl, (ShrRef.spares-sref U H A W (Array'.Array L.u64 256) y1 2, Reads.reads-sref U H A W (Array'.Array L.u64 256) y1 2, refl, ((Scalar.reads-sc U H A W (Row.sInt Y.w64), refl), ((copied (Declared.row Ranking.the-type) refl (Copies.cStruct Ranking.the-type Ranking′.the-laws Ranking′.the-copy .copy U H A W), refl), (as-is r22, Mut.reads-mslice U H A W L.u64 y7 9, refl, (as-is (Rows'.mref (Array'.Array L.u64 32) y4 10), Reads.reads-mref U H A W (Array'.Array L.u64 32) y4 10, refl, tt)))))))
             (gone Y.tyUnit) (tt, (tt, (tt, (tt, (tt, tt))))) refl) d42)))))))
 
         d57 : Typed.Typed U H A C E (lives z0 T25) b36 Δ0 at57
-        d57 = pre (Scalar.g-room U H A W E _ 9 S.ty (S.room U H A W)) (pre (Scalar.g-room U H A W E _ 15 NotAliveGenerationCounts′.mir (Local.room-whole U H A W (Declared.row
-            NotAliveGenerationCounts.the-type) NotAliveGenerationCounts′.mir refl)) (seq (Repeat.t-repeat U H A W E C L.u64 (Plain'.uint-lawful U H A W Y.w64) (Copies.cRf (Referent.fInt
-            Y.w64) .copy U H A W) (Plain'.uint-makes U H A W Y.w64) 32 _ 11 (Scalar.oInt Y.w64 0) (λ m. 0) (gone y14) tt refl λ m wa. (refl, Dec'.lit< tt)) (pre (AtSlots.g-as-by U H A W E (λ
-            ρ. Unit) _ 11 r41 (λ x. x) (Own.told-none U H A ((lives z0 T28) .slots)) λ ρ told. Repeat.whole-arr U H A W L.u64 32 tt ρ) (pre (begin 7 _) (seq (Reshare'.t-sl-reshare U H A W E
-            S.row C _ 3 18 1 7 y9 y10 l1 0 (λ x. x) (as-is r25) (gone y10) refl tt refl refl refl λ b o. tt) (seq (Relend.t-sl-aggregate U H A W E S.row C (Relend.asShr S.row) _ 18 19 7 y10
-            y10 (λ x. x) (Scalar.oFld 3 (Y.field 1 ∷ []) (Y.tyInt Y.w64) 8 λ v. Shared.lenV (v .0)) (as-is (Relend.ssptr S.row y10 7)) (gone y8)
-            (Reshare'.reads-owedS-len U H A W S.row y9 1 7 l1 8 refl, refl) refl refl λ b o k. tt) d50))))))
+        d57 = pre (Typed.pass T25 T26 s24) (Scalar.g-room U H A W E _ 9 S.ty (S.room U H A W)) (pre (Typed.pass T26 T27 s25) (Scalar.g-room U H A W E _ 15 NotAliveGenerationCounts′.mir
+            (Local.room-whole U H A W (Declared.row NotAliveGenerationCounts.the-type) NotAliveGenerationCounts′.mir refl)) (seq (Typed.pass T27 T28 s26) (Repeat.t-repeat U H A W E C L.u64
+            (Plain'.uint-lawful U H A W Y.w64) (Copies.cRf (Referent.fInt Y.w64) .copy U H A W) (Plain'.uint-makes U H A W Y.w64) 32 _ 11 (Scalar.oInt Y.w64 0) (λ m. 0) (gone y14) tt refl λ
+            m wa. (refl, Dec'.lit< tt)) (pre (Typed.pass T28 T29 s27) (AtSlots.g-as-by U H A W E (λ ρ. Unit) _ 11 r41 (λ x. x) (Own.told-none U H A ((lives z0 T28) .slots)) λ ρ told.
+            Repeat.whole-arr U H A W L.u64 32 tt ρ) (pre (λ Ψ. Ψ) (begin 7 _) (seq (Typed.give s29) (Reshare'.t-sl-reshare U H A W E S.row C _ 3 18 1 7 y9 y10 l1 0 (λ x. x) (as-is r25) (gone
+            y10) refl tt refl refl refl λ b o. tt) (seq (Typed.ask s30) (Relend.t-sl-aggregate U H A W E S.row C (Relend.asShr S.row) _ 18 19 7 y10 y10 (λ x. x) (Scalar.oFld 3 (Y.field 1 ∷
+            []) (Y.tyInt Y.w64) 8 λ v. Shared.lenV (v .0)) (as-is (Relend.ssptr S.row y10 7)) (gone y8) (Reshare'.reads-owedS-len U H A W S.row y9 1 7 l1 8 refl, refl) refl refl λ b o k. tt)
+            d50))))))
 
         d62 : Typed.Typed U H A C E (lives (Row.off ∷ l1 ∷ Row.lease (κs .1 .1 .0) (qs .1 .1 .0) ∷ l2 ∷ Row.off ∷ Row.off ∷ Row.alive ∷ Row.off ∷ Row.off ∷ Row.off ∷ Row.off ∷ Row.off ∷
             Row.off ∷ Row.off ∷ []) (on 2 (Reshare.mref-owedS (Array'.Array L.u64 928) y0 0 6 l0) T20)) b37 Δ0 at62
-        d62 = pre (Local.g-drop-sref U H A W E _ 16 6 (Array'.Array L.u64 928) y2 (λ x. x) (as-is (Rows'.sref (Array'.Array L.u64 928) y2 6))) (pre (end 6 refl) (pre (Reshare.g-back-mref-shr
-            U H A W E _ 2 0 6 (Array'.Array L.u64 928) y0 l0 (λ x. x) (as-is (Reshare.mref-owedS (Array'.Array L.u64 928) y0 0 6 l0)) refl refl) (pre (Lifetime.g-forget U H A W E _ 6
-            Row.dead refl) (seq (Plain.t-call-plain U H A W C 0 ps·3 r·3 (cl .6) (cl .7) "datasample_access::ranking_of" (known .3) E (λ pos β. β) _
-            (record { pos = 9; st = []; d = 0; at = λ x. x }, (record { pos = 15; st = []; d = 0; at = λ x. x }, tt)) 10 [] (Call.sub-id U H A W _)
+        d62 = pre (Typed.pass T20 T21 s19) (Local.g-drop-sref U H A W E _ 16 6 (Array'.Array L.u64 928) y2 (λ x. x) (as-is (Rows'.sref (Array'.Array L.u64 928) y2 6))) (pre (λ Ψ. Ψ) (end 6
+            refl) (pre (Typed.pass T21 T23 s21) (Reshare.g-back-mref-shr U H A W E _ 2 0 6 (Array'.Array L.u64 928) y0 l0 (λ x. x) (as-is (Reshare.mref-owedS (Array'.Array L.u64 928) y0 0 6
+            l0)) refl refl) (pre (λ Ψ. Ψ) (Lifetime.g-forget U H A W E _ 6 Row.dead refl) (seq (Typed.both s23) (Plain.t-call-plain U H A W C 0 ps·3 r·3 (cl .6) (cl .7)
+            "datasample_access::ranking_of" (known .3) E (λ pos β. β) _ (record { pos = 9; st = []; d = 0; at = λ x. x }, (record { pos = 15; st = []; d = 0; at = λ x. x }, tt)) 10 []
+            (Call.sub-id U H A W _)
             ((S.yields U H A W, refl), ((copied (Declared.row NotAliveGenerationCounts.the-type) refl (Copies.cStruct NotAliveGenerationCounts.the-type NotAliveGenerationCounts′.the-laws NotAliveGenerationCounts′.the-copy .copy U H A W), refl), tt))
             (gone Ranking′.mir) tt refl) d57))))
 
         d69 : Typed.Typed U H A C E (lives (l0 ∷ Row.off ∷ Row.lease (κs .1 .1 .0) (qs .1 .1 .0) ∷ l2 ∷ Row.off ∷ Row.alive ∷ Row.off ∷ Row.off ∷ Row.off ∷ Row.off ∷ Row.off ∷ Row.off ∷
             Row.off ∷ Row.off ∷ []) (on 3 (Reshare'.mslice-owedS S.row y9 1 5 l1) T13)) b39 Δ0 at69
-        d69 = pre (Scalar.g-room U H A W E _ 14 y8 (Shared.room-sslice U H A W S.row y10 5)) (pre (end 5 refl) (pre (Reshare'.g-back-sl-shr U H A W E S.row _ 3 1 5 y9 l1 (λ x. x) (as-is
-            (Reshare'.mslice-owedS S.row y9 1 5 l1)) refl refl) (pre (Lifetime.g-forget U H A W E _ 5 Row.dead refl) (pre (begin 6 _) (seq (Reshare.t-mref-reshare U H A W E C _ 2 16 0 6
-            (Array'.Array L.u64 928) y12 y0 y2 l0 (λ x. x) (as-is r4) (gone y2) refl tt refl refl λ b o. tt) (seq (Plain.t-call-plain U H A W C 2 ps·2 r·2 (cl .4) (cl .5)
-            "access::last_counts" (known .2) E (λ pos β. β) _ (record { pos = 16; ty = y2; ref = λ x. x }, (record { pos = 4; ty = y1; ref = λ x. x }, (Num.vAt 5 λ x. x, tt))) 15 (6 ∷ 2 ∷
-            []) (Call.sub-id U H A W _)
+        d69 = pre (Typed.pass T13 T14 s12) (Scalar.g-room U H A W E _ 14 y8 (Shared.room-sslice U H A W S.row y10 5)) (pre (λ Ψ. Ψ) (end 5 refl) (pre (Typed.pass T14 T16 s14)
+            (Reshare'.g-back-sl-shr U H A W E S.row _ 3 1 5 y9 l1 (λ x. x) (as-is (Reshare'.mslice-owedS S.row y9 1 5 l1)) refl refl) (pre (λ Ψ. Ψ) (Lifetime.g-forget U H A W E _ 5 Row.dead
+            refl) (pre (λ Ψ. Ψ) (begin 6 _) (seq (Typed.give s17) (Reshare.t-mref-reshare U H A W E C _ 2 16 0 6 (Array'.Array L.u64 928) y12 y0 y2 l0 (λ x. x) (as-is r4) (gone y2) refl tt
+            refl refl λ b o. tt) (seq (Typed.both s18) (Plain.t-call-plain U H A W C 2 ps·2 r·2 (cl .4) (cl .5) "access::last_counts" (known .2) E (λ pos β. β) _
+            (record { pos = 16; ty = y2; ref = λ x. x }, (record { pos = 4; ty = y1; ref = λ x. x }, (Num.vAt 5 λ x. x, tt))) 15 (6 ∷ 2 ∷ []) (Call.sub-id U H A W _)
             (ShrRef.spares-sref U H A W (Array'.Array L.u64 928) y2 6, Reads.reads-sref U H A W (Array'.Array L.u64 928) y2 6, refl, (ShrRef.spares-sref U H A W (Array'.Array L.u64 256) y1 2, Reads.reads-sref U H A W (Array'.Array L.u64 256) y1 2, refl, ((Scalar.reads-sc U H A W (Row.sInt Y.w64), refl), tt)))
             (gone NotAliveGenerationCounts′.mir) (tt, (tt, tt)) refl) d62))))))
 
         d77 : Typed.Typed U H A C E (lives (Row.off ∷ l1 ∷ Row.lease (κs .1 .1 .0) (qs .1 .1 .0) ∷ l2 ∷ Row.alive ∷ Row.off ∷ Row.off ∷ Row.off ∷ Row.off ∷ Row.off ∷ Row.off ∷ Row.off ∷
-            Row.off ∷ Row.off ∷ []) (on 2 (Reshare.mref-owedS (Array'.Array L.u64 928) y0 0 4 l0) T5)) b42 Δ0 at77
-        d77 = pre (Local.g-drop-sref U H A W E _ 12 4 (Array'.Array L.u64 928) y2 (λ x. x) (as-is r7)) (pre (end 4 refl) (pre (Reshare.g-back-mref-shr U H A W E _ 2 0 4 (Array'.Array L.u64
-            928) y0 l0 (λ x. x) (as-is (Reshare.mref-owedS (Array'.Array L.u64 928) y0 0 4 l0)) refl refl) (pre (Lifetime.g-forget U H A W E _ 4 Row.dead refl) (pre (begin 5 _) (seq
-            (Reshare'.t-sl-reshare U H A W E S.row C _ 3 13 1 5 y9 y10 l1 0 (λ x. x) (as-is r25) (gone y10) refl tt refl refl refl λ b o. tt) (seq (Relend.t-sl-aggregate U H A W E S.row C
-            (Relend.asShr S.row) _ 13 14 5 y10 y10 (λ x. x) (Scalar.oFld 3 (Y.field 1 ∷ []) (Y.tyInt Y.w64) 8 λ v. Shared.lenV (v .0)) (as-is r28) (gone y8)
-            (Reshare'.reads-owedS-len U H A W S.row y9 1 5 l1 8 refl, refl) refl refl λ b o k. tt) (seq (Plain.t-call-plain U H A W C 1 ps·1 r·1 (cl .2) (cl .3) "samples::peek" (known .1) E
-            (λ pos β. β) _ (record { pos = 14; ty = y10; ref = λ x. x }, (Num.vAt 8 λ x. x, tt)) 9 (5 ∷ []) (Call.sub-id U H A W _)
+            Row.off ∷ Row.off ∷ []) (on 12 r7 (on 8 L.h64 (on 2 (Reshare.mref-owedS (Array'.Array L.u64 928) y0 0 4 l0) T0)))) b42 Δ0 at77
+        d77 = pre (Typed.pass T5 T6 s4) (Local.g-drop-sref U H A W E _ 12 4 (Array'.Array L.u64 928) y2 (λ x. x) (as-is r7)) (pre (λ Ψ. Ψ) (end 4 refl) (pre (Typed.pass T6 T8 s6)
+            (Reshare.g-back-mref-shr U H A W E _ 2 0 4 (Array'.Array L.u64 928) y0 l0 (λ x. x) (as-is (Reshare.mref-owedS (Array'.Array L.u64 928) y0 0 4 l0)) refl refl) (pre (λ Ψ. Ψ)
+            (Lifetime.g-forget U H A W E _ 4 Row.dead refl) (pre (λ Ψ. Ψ) (begin 5 _) (seq (Typed.give s9) (Reshare'.t-sl-reshare U H A W E S.row C _ 3 13 1 5 y9 y10 l1 0 (λ x. x) (as-is
+            r25) (gone y10) refl tt refl refl refl λ b o. tt) (seq (Typed.ask s10) (Relend.t-sl-aggregate U H A W E S.row C (Relend.asShr S.row) _ 13 14 5 y10 y10 (λ x. x) (Scalar.oFld 3
+            (Y.field 1 ∷ []) (Y.tyInt Y.w64) 8 λ v. Shared.lenV (v .0)) (as-is r28) (gone y8) (Reshare'.reads-owedS-len U H A W S.row y9 1 5 l1 8 refl, refl) refl refl λ b o k. tt) (seq
+            (Typed.both s11) (Plain.t-call-plain U H A W C 1 ps·1 r·1 (cl .2) (cl .3) "samples::peek" (known .1) E (λ pos β. β) _
+            (record { pos = 14; ty = y10; ref = λ x. x }, (Num.vAt 8 λ x. x, tt)) 9 (5 ∷ []) (Call.sub-id U H A W _)
             (ShrSlice.spares-sslice U H A W S.row y10 5, Shared.reads-sslice U H A W S.row y10 5, refl, ((Scalar.reads-sc U H A W (Row.sInt Y.w64), refl), tt)) (gone S.ty) (tt, tt) refl)
             d69)))))))
 
         d81 : Typed.Typed U H A C E (lives z0 T0) b44 Δ0 at81
-        d81 = pre (Know.g-sl-known U H A W (Referent.fInt Y.w64) E _ 7 3 y6 l2 0 (λ x. x) record { fits = Dec'.lit< tt } (as-is r19) refl tt) (pre (begin 4 _) (seq (Reshare.t-mref-reshare U
-            H A W E C _ 2 12 0 4 (Array'.Array L.u64 928) y12 y0 y2 l0 (λ x. x) (as-is r4) (gone y2) refl tt refl refl λ b o. tt) (seq (Plain.t-call-plain U H A W C 1 ps·0 r·0 (cl .0) (cl
-            .1) "lookup::latest_slot" (known .0) E (λ pos β. β) _ (record { pos = 1; st = []; d = 0; at = λ x. x }, (record { pos = 12; ty = y2; ref = λ x. x }, tt)) 8 (4 ∷ []) (Call.sub-id
-            U H A W _)
+        d81 = pre (Typed.give s0) (Know.g-sl-known U H A W (Referent.fInt Y.w64) E _ 7 3 y6 l2 0 (λ x. x) record { fits = Dec'.lit< tt } (as-is r19) refl tt) (pre (λ Ψ. Ψ) (begin 4 _) (seq
+            (Typed.give s2) (Reshare.t-mref-reshare U H A W E C _ 2 12 0 4 (Array'.Array L.u64 928) y12 y0 y2 l0 (λ x. x) (as-is r4) (gone y2) refl tt refl refl λ b o. tt) (seq (Typed.both
+            s3) (Plain.t-call-plain U H A W C 1 ps·0 r·0 (cl .0) (cl .1) "lookup::latest_slot" (known .0) E (λ pos β. β) _
+            (record { pos = 1; st = []; d = 0; at = λ x. x }, (record { pos = 12; ty = y2; ref = λ x. x }, tt)) 8 (4 ∷ []) (Call.sub-id U H A W _)
             ((copied (Declared.row Cache.the-type) refl (Copies.cStruct Cache.the-type Cache′.the-laws Cache′.the-copy .copy U H A W), refl), (ShrRef.spares-sref U H A W (Array'.Array L.u64 928) y2 4, Reads.reads-sref U H A W (Array'.Array L.u64 928) y2 4, refl, tt))
             (gone (Y.tyInt Y.w64)) (tt, tt) refl) d77)))
 

@@ -49,11 +49,14 @@ y1 = Y.tyRef (Y.named 0) Y.mut S.named
 abbrev y0 : Y.Ty
 y0 = Y.tyRef (Y.named 1) Y.imm (Y.tyArray (Y.tyInt Y.w64) 256)
 
-abbrev r1 : Row.Row
-r1 = Relend.mslice-owed S.row y1 0 2 Row.off
+abbrev r0 : Row.Row
+r0 = Rows.sref (Array.Array L.u64 256) y0 1
 
 abbrev r2 : Row.Row
 r2 = Mut.mslice S.row y1 0
+
+abbrev r3 : Row.Row
+r3 = Rows.any-gone (L.sl y2)
 
 abbrev r4 : Row.Row
 r4 = Relend.msptr S.row y2 2
@@ -63,6 +66,9 @@ r5 = Mut.mslice S.row y2 2
 
 abbrev r6 : Row.Row
 r6 = Mut.msleft S.row y2
+
+abbrev r7 : Row.Row
+r7 = Rows.any-gone y2
 
 abbrev pub ps : List.List (Kinds.PK 2)
 ps = MutSlice.pMutS S.row 0 tt ∷ ShrRef.pShr (Array.Array L.u64 256) 1 tt ∷ Num.pNum Y.w64 ∷ Bool.pBool ∷ []
@@ -132,8 +138,10 @@ abbrev pub Claims : Type 1
 Claims = Kinds.In 1 ps·0 × Kinds.Out 1 ps·0 r·0 × Kinds.In 1 ps·1 × Kinds.Out 1 ps·1 r·1
 
 abbrev t0 : List.List Row.Entry
-t0 = (0, L.gunit) ∷ (1, r2) ∷ (2, (Rows.sref (Array.Array L.u64 256) y0 1)) ∷ (3, L.h64) ∷ (4, L.hbool) ∷ (5, L.g64) ∷ (6, L.g64) ∷ (7, L.gbool) ∷ (8, L.gunit) ∷ (9, (Rows.any-gone y2)) ∷
-    (10, (Rows.any-gone (L.sl y2))) ∷ []
+t0 = (0, L.gunit) ∷ (1, r2) ∷ (2, r0) ∷ (3, L.h64) ∷ (4, L.hbool) ∷ (5, L.g64) ∷ (6, L.g64) ∷ (7, L.gbool) ∷ (8, L.gunit) ∷ (9, r7) ∷ (10, r3) ∷ []
+
+abbrev t5 : List.List Row.Entry
+t5 = (0, L.gunit) ∷ (1, (Relend.mslice-owed S.row y1 0 2 Row.off)) ∷ (2, r0) ∷ (3, L.h64) ∷ (4, L.hbool) ∷ (5, L.h64) ∷ (6, L.h64) ∷ (7, L.gbool) ∷ (8, L.gunit) ∷ (9, r4) ∷ (10, r3) ∷ []
 
 abbrev on : Nat.ℕ → Row.Row → Row.Cx → Row.Cx
 on n r Γ = record { locals = Row.setRow n (n, r) (Γ .locals); slots = Γ .slots }
@@ -157,13 +165,13 @@ abbrev T8 : Row.Cx
 T8 = on 6 L.h64 T2
 
 abbrev T10 : Row.Cx
-T10 = on 9 r4 (on 1 r1 T8)
+T10 = record { locals = t5; slots = [] }
 
 abbrev T11 : Row.Cx
-T11 = on 10 r5 (on 1 r1 T8)
+T11 = on 10 r5 (on 9 r7 T10)
 
 abbrev T12 : Row.Cx
-T12 = on 10 r6 (on 8 L.hunit T11)
+T12 = on 10 r6 (on 9 r7 (on 8 L.hunit T10))
 
 abbrev T13 : Row.Cx
 T13 = on 10 r6 T11
@@ -175,7 +183,7 @@ abbrev T20 : Row.Cx
 T20 = on 5 L.g64 T19
 
 abbrev T21 : Row.Cx
-T21 = on 3 L.g64 T20
+T21 = on 3 L.g64 (on 0 L.hunit T0)
 
 abbrev O0 : Typed.Outs
 O0 = record { next = Option.none; exits = []; returns = Option.some T1 }
@@ -304,6 +312,9 @@ module _ (cl : Claims) where
         abbrev z0 : List.List Row.Life
         z0 = l0 ∷ Row.lease (κs .1 .0) (qs .1 .0) ∷ Row.off ∷ []
 
+        abbrev g7 : List.List Row.Entry
+        g7 = (0, L.gunit) ∷ (1, Relend.mslice-owed S.row y1 0 2 l0) ∷ (2, r0) ∷ (3, L.h64) ∷ (4, L.hbool) ∷ (5, L.h64) ∷ (6, L.h64) ∷ (7, L.gbool) ∷ (8, L.hunit) ∷ (9, r7) ∷ (10, r6) ∷ []
+
         abbrev G2 : Row.Cx
         G2 = lives z0 T2
 
@@ -330,13 +341,13 @@ module _ (cl : Claims) where
           abbrev E : Wp.Env U H
           E = Frame.EnvOf U H (Kinds.tyR r ∷ (Enter.tysP ps xs)) bs
 
-          pre : {Γ Γ₁ : Row.Cx} {b : Y.Body} {Δ : Typed.Outs} {φ : Typed.Tf Γ Γ₁} {Φ : Typed.TF Γ₁ Δ} → Typed.Ghost U H A E Γ Γ₁ φ → Typed.Typed U H A C E Γ₁ b Δ Φ → Typed.Typed U H A C E Γ
+          pre : {Γ Γ₁ : Row.Cx} {b : Y.Body} {Δ : Typed.Outs} {Φ : Typed.TF Γ₁ Δ} (φ : Typed.Tf Γ Γ₁) → Typed.Ghost U H A E Γ Γ₁ φ → Typed.Typed U H A C E Γ₁ b Δ Φ → Typed.Typed U H A C E Γ
               b Δ (λ Ψ. φ (Φ Ψ))
-          pre = Typed.g-pre U H A W C E _ _ _ _ _ _
+          pre φ = Typed.g-pre U H A W C E _ _ _ _ φ _
 
-          seq : {Γ Γ₁ : Row.Cx} {a b : Y.Body} {Δ : Typed.Outs} {φ : Typed.Tf Γ Γ₁} {Φ : Typed.TF Γ₁ Δ} → Typed.Stmt U H A C E Γ a Γ₁ φ → Typed.Typed U H A C E Γ₁ b Δ Φ → Typed.Typed U H A C
+          seq : {Γ Γ₁ : Row.Cx} {a b : Y.Body} {Δ : Typed.Outs} {Φ : Typed.TF Γ₁ Δ} (φ : Typed.Tf Γ Γ₁) → Typed.Stmt U H A C E Γ a Γ₁ φ → Typed.Typed U H A C E Γ₁ b Δ Φ → Typed.Typed U H A C
               E Γ (Y.seq a b) Δ (λ Ψ. φ (Φ Ψ))
-          seq = Typed.s-seq U H A W C E _ _ _ _ _ _ _
+          seq φ = Typed.s-seq U H A W C E _ _ _ _ _ φ _
 
           gone : (τ : Y.Ty) → Reads.ToRoom U H A (Rows.any-gone τ) τ
           gone = Reads.room-gone U H A
@@ -345,41 +356,41 @@ module _ (cl : Claims) where
           room-sc = Scalar.room-sc U H A W
 
           d1 : Typed.Typed U H A C E G4 b2 Δ4 at1
-          d1 = pre (Scalar.g-room U H A W E _ 7 Y.tyBool (room-sc Row.sBool)) (Typed.t-skip U H A W C E Δ4 tt)
+          d1 = pre (Typed.pass T4 T2 s2) (Scalar.g-room U H A W E _ 7 Y.tyBool (room-sc Row.sBool)) (Typed.t-skip U H A W C E Δ4 tt)
 
           d3 : Typed.Typed U H A C E G4 b3 Δ4 at3
-          d3 = pre (Scalar.g-room U H A W E _ 7 Y.tyBool (room-sc Row.sBool)) (Typed.t-exit U H A W C E 1 Δ4 tt)
+          d3 = pre (Typed.pass T4 T2 s2) (Scalar.g-room U H A W E _ 7 Y.tyBool (room-sc Row.sBool)) (Typed.t-exit U H A W C E 1 Δ4 tt)
 
           d4 : Typed.Typed U H A C E G4 b4 Δ4 at4
           d4 = Scalar.t-cond U H A W E C _ 7 (λ x. x) b2 b3 Δ4 at1 at3 (Scalar.reads-sc U H A W Row.sBool) refl d1 d3
 
-          d9 : Typed.Typed U H A C E (lives (Row.off ∷ Row.lease (κs .1 .0) (qs .1 .0) ∷ Row.alive ∷ []) (on 1 (Relend.mslice-owed S.row y1 0 2 l0) T12)) b9 Δ3 at9
-          d9 = pre (Scalar.g-room U H A W E _ 8 Y.tyUnit (room-sc Row.sUnit)) (pre (Lifetime.g-end U H A W E _ 2 refl) (pre (Relend.g-back-sl U H A W E S.row _ 10 1 0 2 y1 y2 l0 (λ x. x) (λ
-              x. x) (Reads.as-is U H A r6) (Reads.as-is U H A (Relend.mslice-owed S.row y1 0 2 l0)) refl refl) (pre (Lifetime.g-forget U H A W E _ 2 Row.dead refl) (Typed.s-typed U H A W C E
-              _ b9 Δ3 (λ Ψ. Typed.ask s13 (Typed.pass T8 T2 s14 Ψ)) tt (Typed.g-post U H A W C E _ _ _ b9 (Typed.ask s13) (Typed.pass T8 T2 s14) (Scalar.t-op2 U H A W E C _ (Y.add
-              Y.unsigned) (Scalar.oAt 5 (Y.tyInt Y.w64) (Row.valS (Row.sInt Y.w64))) (Scalar.oInt Y.w64 1) 5 L.h64 (Y.tyInt Y.w64) (Row.valS (Row.sInt Y.w64)) (Row.sInt Y.w64 .of)
-              (Scalar.reads-sc U H A W (Row.sInt Y.w64), refl) tt (room-sc (Row.sInt Y.w64)) (Scalar.holds-sc U H A W (Row.sInt Y.w64)) refl (λ u. refl) λ u. tt) (Scalar.g-room U H A W E _ 6
-              (Y.tyInt Y.w64) (room-sc (Row.sInt Y.w64))))))))
+          d9 : Typed.Typed U H A C E (record { locals = g7; slots = (Row.off ∷ Row.lease (κs .1 .0) (qs .1 .0) ∷ Row.alive ∷ []) }) b9 Δ3 at9
+          d9 = pre (Typed.pass T12 T13 s9) (Scalar.g-room U H A W E _ 8 Y.tyUnit (room-sc Row.sUnit)) (pre (λ Ψ. Ψ) (Lifetime.g-end U H A W E _ 2 refl) (pre (Typed.both s11)
+              (Relend.g-back-sl U H A W E S.row _ 10 1 0 2 y1 y2 l0 (λ x. x) (λ x. x) (Reads.as-is U H A r6) (Reads.as-is U H A (Relend.mslice-owed S.row y1 0 2 l0)) refl refl) (pre (λ Ψ. Ψ)
+              (Lifetime.g-forget U H A W E _ 2 Row.dead refl) (Typed.s-typed U H A W C E _ b9 Δ3 (λ Ψ. Typed.ask s13 (Typed.pass T8 T2 s14 Ψ)) tt (Typed.g-post U H A W C E _ _ _ b9
+              (Typed.ask s13) (Typed.pass T8 T2 s14) (Scalar.t-op2 U H A W E C _ (Y.add Y.unsigned) (Scalar.oAt 5 (Y.tyInt Y.w64) (Row.valS (Row.sInt Y.w64))) (Scalar.oInt Y.w64 1) 5 L.h64
+              (Y.tyInt Y.w64) (Row.valS (Row.sInt Y.w64)) (Row.sInt Y.w64 .of) (Scalar.reads-sc U H A W (Row.sInt Y.w64), refl) tt (room-sc (Row.sInt Y.w64)) (Scalar.holds-sc U H A W
+              (Row.sInt Y.w64)) refl (λ u. refl) λ u. tt) (Scalar.g-room U H A W E _ 6 (Y.tyInt Y.w64) (room-sc (Row.sInt Y.w64))))))))
 
           d13 : Typed.Typed U H A C E (lives z0 T8) b12 Δ3 at13
-          d13 = pre (Lifetime.g-begin U H A W E _ 2 (tt, (tt, (tt, (tt, (tt, (tt, (tt, (tt, (tt, (tt, (tt, tt)))))))))))) (seq (Relend.t-sl-relend U H A W E S.row C _ 1 9 0 2 y1 y2 l0 0 (λ
-              x. x) (Reads.as-is U H A r2) (gone y2) refl tt refl refl refl λ b o. tt) (seq (Relend.t-sl-aggregate U H A W E S.row C (Relend.asMut S.row) _ 9 10 2 y2 y2 (λ x. x) (Scalar.oFld
-              1 (Y.field 1 ∷ []) (Y.tyInt Y.w64) 8 λ v. Shared.lenV (v .0)) (Reads.as-is U H A r4) (gone (L.sl y2)) (Relend.reads-owed-len U H A W S.row y1 0 2 l0 8 refl, refl) refl refl λ b
-              o k. tt) (seq (Plain.t-call-plain U H A W C 1 ps·1 r·1 (cl .2) (cl .3) "samples::touch" (known .1) E (λ pos β. β) _
-              (record { pos = 10; ty = y2; ref = λ x. x }, (Num.vAt 6 λ x. x, (Bool.bAt 4 λ x. x, tt))) 8 (2 ∷ []) (Call.sub-id U H A W _)
+          d13 = pre (λ Ψ. Ψ) (Lifetime.g-begin U H A W E _ 2 (tt, (tt, (tt, (tt, (tt, (tt, (tt, (tt, (tt, (tt, (tt, tt)))))))))))) (seq (Typed.give s6) (Relend.t-sl-relend U H A W E S.row C
+              _ 1 9 0 2 y1 y2 l0 0 (λ x. x) (Reads.as-is U H A r2) (gone y2) refl tt refl refl refl λ b o. tt) (seq (Typed.ask s7) (Relend.t-sl-aggregate U H A W E S.row C (Relend.asMut
+              S.row) _ 9 10 2 y2 y2 (λ x. x) (Scalar.oFld 1 (Y.field 1 ∷ []) (Y.tyInt Y.w64) 8 λ v. Shared.lenV (v .0)) (Reads.as-is U H A r4) (gone (L.sl y2))
+              (Relend.reads-owed-len U H A W S.row y1 0 2 l0 8 refl, refl) refl refl λ b o k. tt) (seq (Typed.both s8) (Plain.t-call-plain U H A W C 1 ps·1 r·1 (cl .2) (cl .3)
+              "samples::touch" (known .1) E (λ pos β. β) _ (record { pos = 10; ty = y2; ref = λ x. x }, (Num.vAt 6 λ x. x, (Bool.bAt 4 λ x. x, tt))) 8 (2 ∷ []) (Call.sub-id U H A W _)
               (Reads.as-is U H A r5, Mut.reads-mslice U H A W S.row y2 2, refl, ((Scalar.reads-sc U H A W (Row.sInt Y.w64), refl), ((Scalar.reads-sc U H A W Row.sBool, refl), tt))) (gone
               Y.tyUnit) (tt, tt) refl) d9)))
 
           d14 : Typed.Typed U H A C E G2 b13 Δ3 at14
-          d14 = seq (Plain.t-call-plain U H A W C 1 ps·0 r·0 (cl .0) (cl .1) "access::slot_at" (known .0) E (λ pos β. β) _ (record { pos = 2; ty = y0; ref = λ x. x }, (Num.vAt 5 λ x. x, tt))
-              6 (1 ∷ []) (Call.sub-id U H A W _)
+          d14 = seq (Typed.both s4) (Plain.t-call-plain U H A W C 1 ps·0 r·0 (cl .0) (cl .1) "access::slot_at" (known .0) E (λ pos β. β) _
+              (record { pos = 2; ty = y0; ref = λ x. x }, (Num.vAt 5 λ x. x, tt)) 6 (1 ∷ []) (Call.sub-id U H A W _)
               (ShrRef.spares-sref U H A W (Array.Array L.u64 256) y0 1, Reads.reads-sref U H A W (Array.Array L.u64 256) y0 1, refl, ((Scalar.reads-sc U H A W (Row.sInt Y.w64), refl), tt))
               (gone (Y.tyInt Y.w64)) (tt, tt) refl) d13
 
           d16 : Typed.Typed U H A C E G2 b15 Δ3 at16
-          d16 = seq (Scalar.t-op2 U H A W E C _ (Y.lt Y.unsigned) (Scalar.oAt 5 (Y.tyInt Y.w64) (Row.valS (Row.sInt Y.w64))) (Scalar.oAt 3 (Y.tyInt Y.w64) (Row.valS (Row.sInt Y.w64))) 7
-              L.hbool Y.tyBool (Row.valS Row.sBool) (Row.sBool .of) (Scalar.reads-sc U H A W (Row.sInt Y.w64), refl) (Scalar.reads-sc U H A W (Row.sInt Y.w64), refl) (gone Y.tyBool)
-              (Scalar.holds-sc U H A W Row.sBool) refl (λ u. refl) λ u. tt) (Typed.t-seq U H A W C E _ _ b4 b13 Δ3 at4 at14 d4 d14)
+          d16 = seq (Typed.ask s1) (Scalar.t-op2 U H A W E C _ (Y.lt Y.unsigned) (Scalar.oAt 5 (Y.tyInt Y.w64) (Row.valS (Row.sInt Y.w64))) (Scalar.oAt 3 (Y.tyInt Y.w64) (Row.valS (Row.sInt
+              Y.w64))) 7 L.hbool Y.tyBool (Row.valS Row.sBool) (Row.sBool .of) (Scalar.reads-sc U H A W (Row.sInt Y.w64), refl) (Scalar.reads-sc U H A W (Row.sInt Y.w64), refl) (gone
+              Y.tyBool) (Scalar.holds-sc U H A W Row.sBool) refl (λ u. refl) λ u. tt) (Typed.t-seq U H A W C E _ _ b4 b13 Δ3 at4 at14 d4 d14)
 
           d17 : Typed.Typed U H A C E G2 b16 Δ2 at17
           d17 = Typed.t-loop-by U H A W C E _ b15 Δ2 put0 (λ u vs. Inv·0 (Row.get 1 (T2 .locals) u .now) (Row.get 2 (T2 .locals) u .now) (Row.get 3 (T2 .locals) u) (Row.get 4 (T2 .locals) u)
@@ -390,13 +401,14 @@ module _ (cl : Claims) where
           d18 = Typed.t-block U H A W C E _ b16 Δ1 at17 d17
 
           d23 : Typed.Typed U H A C E G2 b20 Δ0 at23
-          d23 = seq (Scalar.t-use U H A W E C _ Scalar.oUnit 0 L.hunit Y.tyUnit (Row.valS Row.sUnit) (Row.sUnit .of) tt (gone Y.tyUnit) (Scalar.holds-sc U H A W Row.sUnit) refl (λ u. refl) λ
-              u. tt) (pre (Scalar.g-room U H A W E _ 5 (Y.tyInt Y.w64) (room-sc (Row.sInt Y.w64))) (pre (Scalar.g-room U H A W E _ 3 (Y.tyInt Y.w64) (room-sc (Row.sInt Y.w64))) (pre
-              (Scalar.g-room U H A W E _ 4 Y.tyBool (room-sc Row.sBool)) (Typed.t-return U H A W C E Δ0 tt))))
+          d23 = seq (Typed.pass T2 T19 s15) (Scalar.t-use U H A W E C _ Scalar.oUnit 0 L.hunit Y.tyUnit (Row.valS Row.sUnit) (Row.sUnit .of) tt (gone Y.tyUnit) (Scalar.holds-sc U H A W
+              Row.sUnit) refl (λ u. refl) λ u. tt) (pre (Typed.pass T19 T20 s16) (Scalar.g-room U H A W E _ 5 (Y.tyInt Y.w64) (room-sc (Row.sInt Y.w64))) (pre (Typed.pass T20 T21 s17)
+              (Scalar.g-room U H A W E _ 3 (Y.tyInt Y.w64) (room-sc (Row.sInt Y.w64))) (pre (Typed.pass T21 T1 s18) (Scalar.g-room U H A W E _ 4 Y.tyBool (room-sc Row.sBool)) (Typed.t-return
+              U H A W C E Δ0 tt))))
 
           d25 : Typed.Typed U H A C E (lives z0 T0) b22 Δ0 at25
-          d25 = seq (Scalar.t-use U H A W E C _ (Scalar.oInt Y.w64 0) 5 L.h64 (Y.tyInt Y.w64) (Row.valS (Row.sInt Y.w64)) (Row.sInt Y.w64 .of) tt (gone (Y.tyInt Y.w64)) (Scalar.holds-sc U H
-              A W (Row.sInt Y.w64)) refl (λ u. refl) λ u. tt) (Typed.t-seq U H A W C E _ _ b17 b20 Δ0 at18 at23 d18 d23)
+          d25 = seq (Typed.pass T0 T2 s0) (Scalar.t-use U H A W E C _ (Scalar.oInt Y.w64 0) 5 L.h64 (Y.tyInt Y.w64) (Row.valS (Row.sInt Y.w64)) (Row.sInt Y.w64 .of) tt (gone (Y.tyInt Y.w64))
+              (Scalar.holds-sc U H A W (Row.sInt Y.w64)) refl (λ u. refl) λ u. tt) (Typed.t-seq U H A W C E _ _ b17 b20 Δ0 at18 at23 d18 d23)
 
           pub typed : Typed.Typed U H A C E (Function.Γin 2 ps r xs m κs qs) b22 (Function.Δret 2 ps r xs m κs qs) Φ
           typed = d25
@@ -446,9 +458,9 @@ module _ (cl : Claims) where
       Need-loop-holds = (c : Start) → Inv·0 (Row.get 1 (T2 .locals) (m1 c) .now) (Row.get 2 (T2 .locals) (m1 c) .now) (Row.get 3 (T2 .locals) (m1 c)) (Row.get 4 (T2 .locals) (m1 c)) (Row.get
           5 (T2 .locals) (m1 c)) (Row.get 1 (T2 .locals) (m1 c) .now) (Row.get 5 (T2 .locals) (m1 c))
 
-      abbrev m2 : (before : Start) → (t : List.List (S.row .Denot)) → (p : L.h64 .Mod) → Typed.Mo T2
-      m2 before t p = Row.set 5 (5, L.h64) p (Row.setRow 1 (1, r2) (T2 .locals)) (Row.set 1 (1, r2) record
-          { ptr = Row.get 1 (T2 .locals) (m1 before) .ptr; name = Row.get 1 (T2 .locals) (m1 before) .name; now = t } (T2 .locals) (m1 before))
+      abbrev m2 : (c : Start) → (t : List.List (S.row .Denot)) → (p : L.h64 .Mod) → Typed.Mo T2
+      m2 c t p = Row.set 5 (5, L.h64) p (Row.setRow 1 (1, r2) (T2 .locals)) (Row.set 1 (1, r2) record
+          { ptr = Row.get 1 (T2 .locals) (m1 c) .ptr; name = Row.get 1 (T2 .locals) (m1 c) .name; now = t } (T2 .locals) (m1 c))
 
       abbrev W3 : (c : Start) → (t : List.List (S.row .Denot)) → (p : L.h64 .Mod) → Typed.Want O3
       W3 c t p = Typed.inLoop T2 O2 (Typed.Round T2 O2 put0 (λ u vs. Inv·0 (Row.get 1 (T2 .locals) u .now) (Row.get 2 (T2 .locals) u .now) (Row.get 3 (T2 .locals) u) (Row.get 4 (T2 .locals)

@@ -71,6 +71,9 @@ y1 = Y.tyRef Y.erased Y.mut y4
 abbrev y0 : Y.Ty
 y0 = Y.tyRef (Y.named 0) Y.mut y4
 
+abbrev r0 : Row.Row
+r0 = Rows'.mref-owed (Array'.Array L.u64 928) y0 0 2 Row.off
+
 abbrev r1 : Row.Row
 r1 = Rows'.mref (Array'.Array L.u64 928) y0 0
 
@@ -89,17 +92,35 @@ r5 = Rows'.any-gone y1
 abbrev r6 : Row.Row
 r6 = Mut.mslice S.row y2 1
 
+abbrev r7 : Row.Row
+r7 = Rows'.any-gone (L.sl y3)
+
+abbrev r8 : Row.Row
+r8 = Rows'.any-gone y3
+
 abbrev r9 : Row.Row
 r9 = Rows'.whole (Declared.row AddOutcome.the-type)
 
 abbrev r10 : Row.Row
 r10 = Rows'.any-gone y5
 
+abbrev r11 : Row.Row
+r11 = Rows'.whole (Declared.row Decision.the-type)
+
+abbrev r12 : Row.Row
+r12 = Rows'.whole (Declared.row Cache.the-type)
+
+abbrev r13 : Row.Row
+r13 = Rows'.any-gone AddOutcome′.mir
+
 abbrev r14 : Row.Row
 r14 = Rows'.any-gone Decision′.mir
 
 abbrev r15 : Row.Row
 r15 = Rows'.any-gone Cache′.mir
+
+abbrev r16 : Row.Row
+r16 = Rows.arrF L.u8 16 0
 
 abbrev r17 : Row.Row
 r17 = Rows'.any-gone S.ty
@@ -190,11 +211,34 @@ Claims = Kinds.In 0 ps·0 × Kinds.Out 0 ps·0 r·0 × Kinds.In 1 ps·1 × Kinds
     Kinds.Out 0 ps·4 r·0
 
 abbrev t0 : List.List Row.Entry
-t0 = (0, (Rows'.any-gone AddOutcome′.mir)) ∷ (1, (Rows'.whole (Declared.row Cache.the-type))) ∷ (2, r1) ∷ (3, r6) ∷ (4, L.h64) ∷ (5, (Rows.arrF L.u8 16 0)) ∷ (6, L.h64) ∷ (7, L.h64) ∷
-    (8, L.h8) ∷ (9, L.h32) ∷ (10, r14) ∷ (11, r17) ∷ (12, r17) ∷ (13, L.g64) ∷ (14, L.gbool) ∷ (15, r5) ∷ []
+t0 = (0, r13) ∷ (1, r12) ∷ (2, r1) ∷ (3, r6) ∷ (4, L.h64) ∷ (5, r16) ∷ (6, L.h64) ∷ (7, L.h64) ∷ (8, L.h8) ∷ (9, L.h32) ∷ (10, r14) ∷ (11, r17) ∷ (12, r17) ∷ (13, L.g64) ∷ (14, L.gbool) ∷
+    (15, r5) ∷ []
 
 abbrev t1 : List.List Row.Entry
-t1 = (16, (Rows'.any-gone y3)) ∷ (17, (Rows'.any-gone (L.sl y3))) ∷ []
+t1 = (16, r8) ∷ (17, r7) ∷ []
+
+abbrev t2 : List.List Row.Entry
+t2 = (0, r9) ∷ (1, r15) ∷ (2, r1) ∷ (3, r6) ∷ (4, L.g64) ∷ (5, r10) ∷ (6, L.g64) ∷ (7, L.g64) ∷ (8, L.g8) ∷ (9, L.g32) ∷ (10, r14) ∷ (11, r17) ∷ (12, r17) ∷ (13, L.g64) ∷ (14, L.gbool) ∷
+    (15, r5) ∷ []
+
+abbrev t10 : List.List Row.Entry
+t10 = (0, r9) ∷ (1, r15) ∷ (2, r1) ∷ (3, r6) ∷ (4, L.g64) ∷ (5, r10) ∷ (6, L.h64) ∷ (7, L.h64) ∷ (8, L.h8) ∷ (9, L.h32) ∷ (10, r14) ∷ (11, r17) ∷ (12, r17) ∷ (13, L.g64) ∷ (14, L.gbool) ∷
+    (15, r5) ∷ []
+
+abbrev t16 : List.List Row.Entry
+t16 = (0, r13) ∷ (1, r15) ∷ (2, r0) ∷ (3, r6) ∷ (4, L.h64) ∷ (5, r16) ∷ (6, L.h64) ∷ (7, L.h64) ∷ (8, L.h8) ∷ (9, L.h32) ∷ (10, r11) ∷ (11, r17) ∷ (12, r17) ∷ (13, L.g64) ∷ (14, L.gbool) ∷
+    (15, r3) ∷ []
+
+abbrev t19 : List.List Row.Entry
+t19 = (0, r13) ∷ (1, r15) ∷ (2, r1) ∷ (3, r6) ∷ (4, L.h64) ∷ (5, r10) ∷ (6, L.h64) ∷ (7, L.h64) ∷ (8, L.h8) ∷ (9, L.h32) ∷ (10, r11) ∷ (11, S.here) ∷ (12, r17) ∷ (13, L.g64) ∷ (14, L.gbool)
+    ∷ (15, r5) ∷ []
+
+abbrev t24 : List.List Row.Entry
+t24 = (16, r8) ∷ (17, Mut.msleft S.row y3) ∷ []
+
+abbrev t25 : List.List Row.Entry
+t25 = (0, r13) ∷ (1, r15) ∷ (2, r1) ∷ (3, r4) ∷ (4, L.h64) ∷ (5, r10) ∷ (6, L.h64) ∷ (7, L.h64) ∷ (8, L.h8) ∷ (9, L.h32) ∷ (10, r11) ∷ (11, r17) ∷ (12, S.here) ∷ (13, L.g64) ∷ (14, L.gbool)
+    ∷ (15, r5) ∷ []
 
 abbrev on : Nat.ℕ → Row.Row → Row.Cx → Row.Cx
 on n r Γ = record { locals = Row.setRow n (n, r) (Γ .locals); slots = Γ .slots }
@@ -206,7 +250,7 @@ abbrev T0 : Row.Cx
 T0 = record { locals = List._++_ t0 t1; slots = [] }
 
 abbrev T1 : Row.Cx
-T1 = on 9 L.g32 (on 8 L.g8 (on 7 L.g64 (on 6 L.g64 (on 5 r10 (on 4 L.g64 (on 1 r15 (on 0 r9 T0)))))))
+T1 = record { locals = List._++_ t2 t1; slots = [] }
 
 abbrev T2 : Row.Cx
 T2 = on 13 L.h64 T0
@@ -218,7 +262,7 @@ abbrev T5 : Row.Cx
 T5 = on 13 L.g64 T3
 
 abbrev T6 : Row.Cx
-T6 = on 5 r10 T5
+T6 = on 14 L.hbool (on 5 r10 T0)
 
 abbrev T7 : Row.Cx
 T7 = on 5 r10 T0
@@ -230,7 +274,7 @@ abbrev T9 : Row.Cx
 T9 = on 1 r15 T8
 
 abbrev T10 : Row.Cx
-T10 = on 4 L.g64 T9
+T10 = record { locals = List._++_ t10 t1; slots = [] }
 
 abbrev T11 : Row.Cx
 T11 = on 6 L.g64 T10
@@ -242,13 +286,13 @@ abbrev T13 : Row.Cx
 T13 = on 9 L.h32 T1
 
 abbrev T17 : Row.Cx
-T17 = on 15 r2 (on 2 (Rows'.mref-owed (Array'.Array L.u64 928) y0 0 2 Row.off) T0)
+T17 = on 15 r2 (on 2 r0 T0)
 
 abbrev T18 : Row.Cx
-T18 = on 15 r3 (on 10 (Rows'.whole (Declared.row Decision.the-type)) T17)
+T18 = on 15 r3 (on 10 r11 (on 2 r0 T0))
 
 abbrev T19 : Row.Cx
-T19 = on 1 r15 T18
+T19 = record { locals = List._++_ t16 t1; slots = [] }
 
 abbrev T21 : Row.Cx
 T21 = on 15 r5 (on 2 r1 T19)
@@ -257,7 +301,7 @@ abbrev T23 : Row.Cx
 T23 = on 11 S.here T21
 
 abbrev T24 : Row.Cx
-T24 = on 5 r10 T23
+T24 = record { locals = List._++_ t19 t1; slots = [] }
 
 abbrev T26 : Row.Cx
 T26 = on 16 (Relend.msptr S.row y3 3) (on 3 r4 T24)
@@ -269,16 +313,16 @@ abbrev T28 : Row.Cx
 T28 = on 17 (Mut.msleft S.row y3) (on 12 S.here (on 3 r4 T24))
 
 abbrev T29 : Row.Cx
-T29 = on 17 (Mut.msleft S.row y3) (on 12 S.here (on 5 r10 (on 3 r4 T21)))
+T29 = record { locals = List._++_ t25 t24; slots = [] }
 
 abbrev T31 : Row.Cx
-T31 = on 12 S.here (on 5 r10 T21)
+T31 = on 17 r7 (on 3 r6 T29)
 
 abbrev T33 : Row.Cx
 T33 = on 0 r9 T31
 
 abbrev T34 : Row.Cx
-T34 = on 10 r14 T33
+T34 = on 12 S.here (on 4 L.h64 T10)
 
 abbrev O0 : Typed.Outs
 O0 = record { next = Option.none; exits = []; returns = Option.some T1 }
@@ -451,13 +495,13 @@ module _ (cl : Claims) where
             (Rows'.whole R) R (λ x. x) (λ x. x)
         copied R one c = Yields.yields-copy U H A W (λ ρ. Unit) R one c (Rows'.whole R) (λ x. x) (λ x. x) (λ ρ told. Local.mem-whole U H A W R ρ) λ ρ told. Local.whole-mem U H A W R ρ
 
-        pre : {Γ Γ₁ : Row.Cx} {b : Y.Body} {Δ : Typed.Outs} {φ : Typed.Tf Γ Γ₁} {Φ : Typed.TF Γ₁ Δ} → Typed.Ghost U H A E Γ Γ₁ φ → Typed.Typed U H A C E Γ₁ b Δ Φ → Typed.Typed U H A C E Γ b
+        pre : {Γ Γ₁ : Row.Cx} {b : Y.Body} {Δ : Typed.Outs} {Φ : Typed.TF Γ₁ Δ} (φ : Typed.Tf Γ Γ₁) → Typed.Ghost U H A E Γ Γ₁ φ → Typed.Typed U H A C E Γ₁ b Δ Φ → Typed.Typed U H A C E Γ b
             Δ (λ Ψ. φ (Φ Ψ))
-        pre = Typed.g-pre U H A W C E _ _ _ _ _ _
+        pre φ = Typed.g-pre U H A W C E _ _ _ _ φ _
 
-        seq : {Γ Γ₁ : Row.Cx} {a b : Y.Body} {Δ : Typed.Outs} {φ : Typed.Tf Γ Γ₁} {Φ : Typed.TF Γ₁ Δ} → Typed.Stmt U H A C E Γ a Γ₁ φ → Typed.Typed U H A C E Γ₁ b Δ Φ → Typed.Typed U H A C E
+        seq : {Γ Γ₁ : Row.Cx} {a b : Y.Body} {Δ : Typed.Outs} {Φ : Typed.TF Γ₁ Δ} (φ : Typed.Tf Γ Γ₁) → Typed.Stmt U H A C E Γ a Γ₁ φ → Typed.Typed U H A C E Γ₁ b Δ Φ → Typed.Typed U H A C E
             Γ (Y.seq a b) Δ (λ Ψ. φ (Φ Ψ))
-        seq = Typed.s-seq U H A W C E _ _ _ _ _ _ _
+        seq φ = Typed.s-seq U H A W C E _ _ _ _ _ φ _
 
         room : {Γ : Row.Cx} (n : Nat.ℕ) (τ : Y.Ty) → Reads'.ToRoom U H A (Row.getRow n (Γ .locals) .1) τ → Typed.Ghost U H A E Γ (Scalar.After Γ n (Rows'.any-gone τ)) (Typed.pass Γ
             (Scalar.After Γ n (Rows'.any-gone τ)) (Scalar.n-room Γ n τ))
@@ -479,66 +523,72 @@ module _ (cl : Claims) where
         reads-sc = Scalar.reads-sc U H A W
 
         d6 : Typed.Typed U H A C E (lives z0 T8) b3 Δ1 at6
-        d6 = pre (room 1 Cache′.mir (Local.room-whole U H A W (Declared.row Cache.the-type) Cache′.mir refl)) (pre (room 4 (Y.tyInt Y.w64) (room-sc (Row.sInt Y.w64))) (pre (room 6 (Y.tyInt
-            Y.w64) (room-sc (Row.sInt Y.w64))) (pre (room 7 (Y.tyInt Y.w64) (room-sc (Row.sInt Y.w64))) (pre (room 8 (Y.tyInt Y.w8) (room-sc (Row.sInt Y.w8))) (pre (room 9 (Y.tyInt Y.w32)
-            (room-sc (Row.sInt Y.w32))) (Typed.t-return U H A W C E Δ1 tt))))))
+        d6 = pre (Typed.pass T8 T9 s6) (room 1 Cache′.mir (Local.room-whole U H A W (Declared.row Cache.the-type) Cache′.mir refl)) (pre (Typed.pass T9 T10 s7) (room 4 (Y.tyInt Y.w64)
+            (room-sc (Row.sInt Y.w64))) (pre (Typed.pass T10 T11 s8) (room 6 (Y.tyInt Y.w64) (room-sc (Row.sInt Y.w64))) (pre (Typed.pass T11 T12 s9) (room 7 (Y.tyInt Y.w64) (room-sc
+            (Row.sInt Y.w64))) (pre (Typed.pass T12 T13 s10) (room 8 (Y.tyInt Y.w8) (room-sc (Row.sInt Y.w8))) (pre (Typed.pass T13 T1 s11) (room 9 (Y.tyInt Y.w32) (room-sc (Row.sInt
+            Y.w32))) (Typed.t-return U H A W C E Δ1 tt))))))
 
         d9 : Typed.Typed U H A C E G5 b4 Δ1 at9
-        d9 = pre (room 5 y5 (Init.room-arr U H A W L.u8 16 0 16 refl)) (pre (room 14 Y.tyBool (room-sc Row.sBool)) (seq (Plain.t-call-plain U H A W C 0 ps·0 r·0 (cl .0) (cl .1)
-            "datasample_cache::not_a_table" (known .0) E (λ pos β. β) _ (record { pos = 1; st = []; d = 0; at = λ x. x }, tt) 0 [] (Call.sub-id U H A W _)
-            ((copied (Declared.row Cache.the-type) refl (Copies.cStruct Cache.the-type Cache′.the-laws Cache′.the-copy .copy U H A W), refl), tt) (gone AddOutcome′.mir) tt refl) d6))
+        d9 = pre (Typed.pass T5 T6 s3) (room 5 y5 (Init.room-arr U H A W L.u8 16 0 16 refl)) (pre (Typed.pass T6 T7 s4) (room 14 Y.tyBool (room-sc Row.sBool)) (seq (Typed.both s5)
+            (Plain.t-call-plain U H A W C 0 ps·0 r·0 (cl .0) (cl .1) "datasample_cache::not_a_table" (known .0) E (λ pos β. β) _ (record { pos = 1; st = []; d = 0; at = λ x. x }, tt) 0 []
+            (Call.sub-id U H A W _) ((copied (Declared.row Cache.the-type) refl (Copies.cStruct Cache.the-type Cache′.the-laws Cache′.the-copy .copy U H A W), refl), tt) (gone
+            AddOutcome′.mir) tt refl) d6))
 
         d11 : Typed.Typed U H A C E G5 b5 Δ1 at11
-        d11 = pre (room 14 Y.tyBool (room-sc Row.sBool)) (Typed.t-skip U H A W C E Δ1 tt)
+        d11 = pre (Typed.pass T5 T0 s12) (room 14 Y.tyBool (room-sc Row.sBool)) (Typed.t-skip U H A W C E Δ1 tt)
 
         d13 : Typed.Typed U H A C E (lives z0 T3) b6 Δ1 at13
-        d13 = pre (room 13 (Y.tyInt Y.w64) (room-sc (Row.sInt Y.w64))) (Scalar.t-cond U H A W E C _ 14 (λ x. x) b4 b5 Δ1 at9 at11 (reads-sc Row.sBool) refl d9 d11)
+        d13 = pre (Typed.pass T3 T5 s2) (room 13 (Y.tyInt Y.w64) (room-sc (Row.sInt Y.w64))) (Scalar.t-cond U H A W E C _ 14 (λ x. x) b4 b5 Δ1 at9 at11 (reads-sc Row.sBool) refl d9 d11)
 
         d21 : Typed.Typed U H A C E (lives z0 T33) b3 Δ0 at21
-        d21 = pre (room 10 Decision′.mir (Local.room-whole U H A W (Declared.row Decision.the-type) Decision′.mir refl)) (pre (room 12 S.ty (S.room U H A W)) (pre (room 4 (Y.tyInt Y.w64)
-            (room-sc (Row.sInt Y.w64))) (pre (room 6 (Y.tyInt Y.w64) (room-sc (Row.sInt Y.w64))) (pre (room 7 (Y.tyInt Y.w64) (room-sc (Row.sInt Y.w64))) (pre (room 8 (Y.tyInt Y.w8) (room-sc
-            (Row.sInt Y.w8))) (pre (room 9 (Y.tyInt Y.w32) (room-sc (Row.sInt Y.w32))) (Typed.t-return U H A W C E Δ0 tt)))))))
+        d21 = pre (Typed.pass T33 T34 s31) (room 10 Decision′.mir (Local.room-whole U H A W (Declared.row Decision.the-type) Decision′.mir refl)) (pre (Typed.pass T34 T9 s32) (room 12 S.ty
+            (S.room U H A W)) (pre (Typed.pass T9 T10 s7) (room 4 (Y.tyInt Y.w64) (room-sc (Row.sInt Y.w64))) (pre (Typed.pass T10 T11 s8) (room 6 (Y.tyInt Y.w64) (room-sc (Row.sInt Y.w64)))
+            (pre (Typed.pass T11 T12 s9) (room 7 (Y.tyInt Y.w64) (room-sc (Row.sInt Y.w64))) (pre (Typed.pass T12 T13 s10) (room 8 (Y.tyInt Y.w8) (room-sc (Row.sInt Y.w8))) (pre (Typed.pass
+            T13 T1 s11) (room 9 (Y.tyInt Y.w32) (room-sc (Row.sInt Y.w32))) (Typed.t-return U H A W C E Δ0 tt)))))))
 
-        d26 : Typed.Typed U H A C E (lives (l0 ∷ Row.off ∷ Row.off ∷ Row.alive ∷ []) (on 17 (Mut.msleft S.row y3) (on 12 S.here (on 3 (Relend.mslice-owed S.row y2 1 3 l1) T24)))) b15 Δ0 at26
-        d26 = pre (room 11 S.ty (S.room U H A W)) (pre (Lifetime.g-end U H A W E _ 3 refl) (pre (Relend.g-back-sl U H A W E S.row _ 17 3 1 3 y2 y3 l1 (λ x. x) (λ x. x) (as-is (Mut.msleft
-            S.row y3)) (as-is (Relend.mslice-owed S.row y2 1 3 l1)) refl refl) (pre (Lifetime.g-forget U H A W E _ 3 Row.dead refl) (seq (Plain.t-call-plain U H A W C 0 ps·4 r·0 (cl .8) (cl
-            .9) "datasample_cache::finish" (known .4) E (λ pos β. β) _ (record { pos = 10; st = []; d = 0; at = λ x. x }, (record { pos = 12; st = []; d = 0; at = λ x. x }, tt)) 0 []
-            (Call.sub-id U H A W _)
+        d26 : Typed.Typed U H A C E (lives (l0 ∷ Row.off ∷ Row.off ∷ Row.alive ∷ []) (on 11 S.here (on 3 (Relend.mslice-owed S.row y2 1 3 l1) T29))) b15 Δ0 at26
+        d26 = pre (Typed.pass T28 T29 s26) (room 11 S.ty (S.room U H A W)) (pre (λ Ψ. Ψ) (Lifetime.g-end U H A W E _ 3 refl) (pre (Typed.both s28) (Relend.g-back-sl U H A W E S.row _ 17 3 1
+            3 y2 y3 l1 (λ x. x) (λ x. x) (as-is (Mut.msleft S.row y3)) (as-is (Relend.mslice-owed S.row y2 1 3 l1)) refl refl) (pre (λ Ψ. Ψ) (Lifetime.g-forget U H A W E _ 3 Row.dead refl)
+            (seq (Typed.both s30) (Plain.t-call-plain U H A W C 0 ps·4 r·0 (cl .8) (cl .9) "datasample_cache::finish" (known .4) E (λ pos β. β) _
+            (record { pos = 10; st = []; d = 0; at = λ x. x }, (record { pos = 12; st = []; d = 0; at = λ x. x }, tt)) 0 [] (Call.sub-id U H A W _)
             ((copied (Declared.row Decision.the-type) refl (Copies.cStruct Decision.the-type Decision′.the-laws Decision′.the-copy .copy U H A W), refl), ((S.yields U H A W, refl), tt))
             (gone AddOutcome′.mir) tt refl) d21))))
 
         d31 : Typed.Typed U H A C E (lives z0 T23) b18 Δ0 at31
-        d31 = pre (room 5 y5 (Init.room-arr U H A W L.u8 16 0 16 refl)) (pre (begin 3 _) (seq (Relend.t-sl-relend U H A W E S.row C _ 3 16 1 3 y2 y3 l1 0 (λ x. x) (as-is r6) (gone y3) refl
-            tt refl refl refl λ b o. tt) (seq (Relend.t-sl-aggregate U H A W E S.row C (Relend.asMut S.row) _ 16 17 3 y3 y3 (λ x. x) (Scalar.oFld 3 (Y.field 1 ∷ []) (Y.tyInt Y.w64) 8 λ v.
-            Shared.lenV (v .0)) (as-is (Relend.msptr S.row y3 3)) (gone (L.sl y3)) (Relend.reads-owed-len U H A W S.row y2 1 3 l1 8 refl, refl) refl refl λ b o k. tt) (seq
-            (Plain.t-call-plain U H A W C 1 ps·3 r·3 (cl .6) (cl .7) "samples::swap" (known .3) E (λ pos β. β) _
+        d31 = pre (Typed.pass T23 T24 s21) (room 5 y5 (Init.room-arr U H A W L.u8 16 0 16 refl)) (pre (λ Ψ. Ψ) (begin 3 _) (seq (Typed.give s23) (Relend.t-sl-relend U H A W E S.row C _ 3 16
+            1 3 y2 y3 l1 0 (λ x. x) (as-is r6) (gone y3) refl tt refl refl refl λ b o. tt) (seq (Typed.ask s24) (Relend.t-sl-aggregate U H A W E S.row C (Relend.asMut S.row) _ 16 17 3 y3 y3
+            (λ x. x) (Scalar.oFld 3 (Y.field 1 ∷ []) (Y.tyInt Y.w64) 8 λ v. Shared.lenV (v .0)) (as-is (Relend.msptr S.row y3 3)) (gone (L.sl y3))
+            (Relend.reads-owed-len U H A W S.row y2 1 3 l1 8 refl, refl) refl refl λ b o k. tt) (seq (Typed.both s25) (Plain.t-call-plain U H A W C 1 ps·3 r·3 (cl .6) (cl .7) "samples::swap"
+            (known .3) E (λ pos β. β) _
             (record { pos = 17; ty = y3; ref = λ x. x }, (Num.vFld 10 (Y.field 4 ∷ []) 104 λ x. Decision.struct .as-values x .1 .1 .1 .1 .0, (Num.vFld 10 (Y.field 3 ∷ []) 96 λ x. Decision.struct .as-values x .1 .1 .1 .0, (record { pos = 11; st = []; d = 0; at = λ x. x }, tt))))
             12 (3 ∷ []) (Call.sub-id U H A W _)
             (as-is (Mut.mslice S.row y3 3), Mut.reads-mslice U H A W S.row y3 3, refl, ((Reads.reads-field U H A W Decision.the-type Decision′.the-laws 4 (Y.tyInt Y.w64) 104 refl, refl), ((Reads.reads-field U H A W Decision.the-type Decision′.the-laws 3 (Y.tyInt Y.w64) 96 refl, refl), ((S.yields U H A W, refl), tt))))
             (gone S.ty) (tt, tt) refl) d26))))
 
-        d36 : Typed.Typed U H A C E (lives (Row.off ∷ l1 ∷ Row.alive ∷ Row.off ∷ []) (on 2 (Rows'.mref-owed (Array'.Array L.u64 928) y0 0 2 l0) T18)) b19 Δ0 at36
-        d36 = pre (room 1 Cache′.mir (Local.room-whole U H A W (Declared.row Cache.the-type) Cache′.mir refl)) (pre (Lifetime.g-end U H A W E _ 2 refl) (pre (Reborrow.g-back-mref U H A W E _
-            15 2 0 2 (Array'.Array L.u64 928) y0 y1 l0 (λ x. x) (λ x. x) (as-is r3) (as-is (Rows'.mref-owed (Array'.Array L.u64 928) y0 0 2 l0)) refl refl) (pre (Lifetime.g-forget U H A W E
-            _ 2 Row.dead refl) (seq (Plain.t-call-plain U H A W C 0 ps·2 r·2 (cl .4) (cl .5) "datasample_cache::record_of" (known .2) E (λ pos β. β) _
+        d36 : Typed.Typed U H A C E (lives (Row.off ∷ l1 ∷ Row.alive ∷ Row.off ∷ []) (on 2 (Rows'.mref-owed (Array'.Array L.u64 928) y0 0 2 l0) (on 1 r12 T19))) b19 Δ0 at36
+        d36 = pre (Typed.pass T18 T19 s16) (room 1 Cache′.mir (Local.room-whole U H A W (Declared.row Cache.the-type) Cache′.mir refl)) (pre (λ Ψ. Ψ) (Lifetime.g-end U H A W E _ 2 refl) (pre
+            (Typed.ask s18) (Reborrow.g-back-mref U H A W E _ 15 2 0 2 (Array'.Array L.u64 928) y0 y1 l0 (λ x. x) (λ x. x) (as-is r3) (as-is (Rows'.mref-owed (Array'.Array L.u64 928) y0 0 2
+            l0)) refl refl) (pre (λ Ψ. Ψ) (Lifetime.g-forget U H A W E _ 2 Row.dead refl) (seq (Typed.both s20) (Plain.t-call-plain U H A W C 0 ps·2 r·2 (cl .4) (cl .5)
+            "datasample_cache::record_of" (known .2) E (λ pos β. β) _
             (record { pos = 10; st = []; d = 0; at = λ x. x }, (record { pos = 5; st = []; d = 0; at = λ x. x }, (Num.vAt 6 λ x. x, (Num.vAt 8 λ x. x, (Num.vAt 9 λ x. x, tt))))) 11 []
             (Call.sub-id U H A W _)
             ((copied (Declared.row Decision.the-type) refl (Copies.cStruct Decision.the-type Decision′.the-laws Decision′.the-copy .copy U H A W), refl), ((Array.arr-yields U H A W (Array.eInt Y.w8) (Array.eInt-laws Y.w8) 16, refl), ((reads-sc (Row.sInt Y.w64), refl), ((reads-sc (Row.sInt Y.w8), refl), ((reads-sc (Row.sInt Y.w32), refl), tt)))))
             (gone S.ty) tt refl) d31))))
 
         d39 : Typed.Typed U H A C E G0 b21 Δ0 at39
-        d39 = pre (begin 2 _) (seq (Reborrow.t-mref-relend U H A W E C _ 2 15 0 2 (Array'.Array L.u64 928) y4 y0 y1 l0 (λ x. x) (as-is r1) (gone y1) refl tt refl refl λ b o. tt) (seq
-            (Plain.t-call-plain U H A W C 1 ps·1 r·1 (cl .2) (cl .3) "datasample_cache::decide" (known .1) E (λ pos β. β) _
+        d39 = pre (λ Ψ. Ψ) (begin 2 _) (seq (Typed.give s14) (Reborrow.t-mref-relend U H A W E C _ 2 15 0 2 (Array'.Array L.u64 928) y4 y0 y1 l0 (λ x. x) (as-is r1) (gone y1) refl tt refl
+            refl λ b o. tt) (seq (Typed.both s15) (Plain.t-call-plain U H A W C 1 ps·1 r·1 (cl .2) (cl .3) "datasample_cache::decide" (known .1) E (λ pos β. β) _
             (record { pos = 1; st = []; d = 0; at = λ x. x }, (record { pos = 15; ty = y1; ref = λ x. x }, (Num.vAt 4 λ x. x, (Num.vAt 6 λ x. x, (Num.vAt 7 λ x. x, (Num.vAt 8 λ x. x, (Num.vAt 9 λ x. x, tt)))))))
             10 (2 ∷ []) (Call.sub-id U H A W _)
             ((copied (Declared.row Cache.the-type) refl (Copies.cStruct Cache.the-type Cache′.the-laws Cache′.the-copy .copy U H A W), refl), (as-is r2, Reads'.reads-mref U H A W (Array'.Array L.u64 928) y1 2, refl, ((reads-sc (Row.sInt Y.w64), refl), ((reads-sc (Row.sInt Y.w64), refl), ((reads-sc (Row.sInt Y.w64), refl), ((reads-sc (Row.sInt Y.w8), refl), ((reads-sc (Row.sInt Y.w32), refl), tt)))))))
             (gone Decision′.mir) (tt, tt) refl) d36))
 
         d42 : Typed.Typed U H A C E G0 b24 Δ0 at42
-        d42 = seq (Scalar.t-use U H A W E C _ (Scalar.oFld 3 (Y.field 1 ∷ []) (Y.tyInt Y.w64) 8 Shared.lenV) 13 L.h64 (Y.tyInt Y.w64) (Row.valS (Row.sInt Y.w64)) (Row.sInt Y.w64 .of)
-            (Mut.reads-mslice-len U H A W S.row y2 1 8 refl, refl) (gone (Y.tyInt Y.w64)) (Scalar.holds-sc U H A W (Row.sInt Y.w64)) refl (λ u. refl) λ u. tt) (seq (Scalar.t-op2 U H A W E C
-            _ Y.ne (Scalar.oAt 13 (Y.tyInt Y.w64) (Row.valS (Row.sInt Y.w64))) (Scalar.oInt Y.w64 256) 14 L.hbool Y.tyBool (Row.valS Row.sBool) (Row.sBool .of)
-            (reads-sc (Row.sInt Y.w64), refl) tt (gone Y.tyBool) (Scalar.holds-sc U H A W Row.sBool) refl (λ u. refl) λ u. tt) (Typed.t-seq U H A W C E _ _ b6 b21 Δ0 at13 at39 d13 d39))
+        d42 = seq (Typed.pass T0 T2 s0) (Scalar.t-use U H A W E C _ (Scalar.oFld 3 (Y.field 1 ∷ []) (Y.tyInt Y.w64) 8 Shared.lenV) 13 L.h64 (Y.tyInt Y.w64) (Row.valS (Row.sInt Y.w64))
+            (Row.sInt Y.w64 .of) (Mut.reads-mslice-len U H A W S.row y2 1 8 refl, refl) (gone (Y.tyInt Y.w64)) (Scalar.holds-sc U H A W (Row.sInt Y.w64)) refl (λ u. refl) λ u. tt) (seq
+            (Typed.ask s1) (Scalar.t-op2 U H A W E C _ Y.ne (Scalar.oAt 13 (Y.tyInt Y.w64) (Row.valS (Row.sInt Y.w64))) (Scalar.oInt Y.w64 256) 14 L.hbool Y.tyBool (Row.valS Row.sBool)
+            (Row.sBool .of) (reads-sc (Row.sInt Y.w64), refl) tt (gone Y.tyBool) (Scalar.holds-sc U H A W Row.sBool) refl (λ u. refl) λ u. tt) (Typed.t-seq U H A W C E _ _ b6 b21 Δ0 at13
+            at39 d13 d39))
 
         pub typed : Typed.Typed U H A C E (Function.Γin 2 ps r xs m κs qs) b24 (Function.Δret 2 ps r xs m κs qs) Φ
         typed = d42

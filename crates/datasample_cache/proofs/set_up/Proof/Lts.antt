@@ -65,9 +65,6 @@ y1 = Y.tyRef Y.erased Y.mut y4
 abbrev y0 : Y.Ty
 y0 = Y.tyRef (Y.named 0) Y.mut y4
 
-abbrev r0 : Row.Row
-r0 = Rows.mref-owed (Array.Array L.u64 928) y0 0 3 Row.off
-
 abbrev r1 : Row.Row
 r1 = Rows.mref (Array.Array L.u64 928) y0 0
 
@@ -77,11 +74,14 @@ r2 = Rows.mref (Array.Array L.u64 928) y1 3
 abbrev r3 : Row.Row
 r3 = Rows.mleft (Array.Array L.u64 928) y1
 
-abbrev r4 : Row.Row
-r4 = Relend.mslice-owed S.row y2 1 2 Row.off
+abbrev r5 : Row.Row
+r5 = Rows.any-gone y1
 
 abbrev r6 : Row.Row
 r6 = Mut.mslice S.row y2 1
+
+abbrev r7 : Row.Row
+r7 = Rows.any-gone (L.sl y3)
 
 abbrev r8 : Row.Row
 r8 = Relend.msptr S.row y3 2
@@ -95,8 +95,14 @@ r10 = Mut.msleft S.row y3
 abbrev r11 : Row.Row
 r11 = Rows.whole (Declared.row SetUpOutcome.the-type)
 
+abbrev r12 : Row.Row
+r12 = Rows.any-gone y3
+
 abbrev r13 : Row.Row
 r13 = Rows.whole (Declared.row Cache.the-type)
+
+abbrev r14 : Row.Row
+r14 = Rows.any-gone SetUpOutcome′.mir
 
 abbrev r15 : Row.Row
 r15 = Rows.sc-here (Row.sInt Y.w16)
@@ -197,8 +203,20 @@ Claims = Kinds.In 0 ps·0 × Kinds.Out 0 ps·0 r·0 × Kinds.In 0 ps·1 × Kinds
     Kinds.Out 1 ps·4 r·4
 
 abbrev t0 : List.List Row.Entry
-t0 = (0, (Rows.any-gone SetUpOutcome′.mir)) ∷ (1, r13) ∷ (2, r1) ∷ (3, r6) ∷ (4, L.h8) ∷ (5, L.h32) ∷ (6, r15) ∷ (7, L.g64) ∷ (8, L.g64) ∷ (9, L.gbool) ∷ (10, L.gbool) ∷ (11, L.gunit) ∷
-    (12, (Rows.any-gone y3)) ∷ (13, (Rows.any-gone (L.sl y3))) ∷ (14, (Rows.any-gone y1)) ∷ []
+t0 = (0, r14) ∷ (1, r13) ∷ (2, r1) ∷ (3, r6) ∷ (4, L.h8) ∷ (5, L.h32) ∷ (6, r15) ∷ (7, L.g64) ∷ (8, L.g64) ∷ (9, L.gbool) ∷ (10, L.gbool) ∷ (11, L.gunit) ∷ (12, r12) ∷ (13, r7) ∷ (14, r5) ∷
+    []
+
+abbrev t1 : List.List Row.Entry
+t1 = (0, r11) ∷ (1, r16) ∷ (2, r1) ∷ (3, r6) ∷ (4, L.g8) ∷ (5, L.g32) ∷ (6, Rows.any-gone (Y.tyInt Y.w16)) ∷ (7, L.g64) ∷ (8, L.g64) ∷ (9, L.gbool) ∷ (10, L.gbool) ∷ (11, L.gunit) ∷
+    (12, r12) ∷ (13, r7) ∷ (14, r5) ∷ []
+
+abbrev t20 : List.List Row.Entry
+t20 = (0, r14) ∷ (1, r16) ∷ (2, r1) ∷ (3, (Relend.mslice-owed S.row y2 1 2 Row.off)) ∷ (4, L.h8) ∷ (5, L.h32) ∷ (6, r15) ∷ (7, L.h64) ∷ (8, L.g64) ∷ (9, L.gbool) ∷ (10, L.gbool) ∷
+    (11, L.gunit) ∷ (12, r8) ∷ (13, r7) ∷ (14, r5) ∷ []
+
+abbrev t24 : List.List Row.Entry
+t24 = (0, r14) ∷ (1, r16) ∷ (2, (Rows.mref-owed (Array.Array L.u64 928) y0 0 3 Row.off)) ∷ (3, r6) ∷ (4, L.h8) ∷ (5, L.h32) ∷ (6, r15) ∷ (7, L.h64) ∷ (8, L.g64) ∷ (9, L.gbool) ∷
+    (10, L.gbool) ∷ (11, L.gunit) ∷ (12, r12) ∷ (13, r7) ∷ (14, r2) ∷ []
 
 abbrev on : Nat.ℕ → Row.Row → Row.Cx → Row.Cx
 on n r Γ = record { locals = Row.setRow n (n, r) (Γ .locals); slots = Γ .slots }
@@ -210,7 +228,7 @@ abbrev T0 : Row.Cx
 T0 = record { locals = t0; slots = [] }
 
 abbrev T1 : Row.Cx
-T1 = on 6 (Rows.any-gone (Y.tyInt Y.w16)) (on 5 L.g32 (on 4 L.g8 (on 1 r16 (on 0 r11 T0))))
+T1 = record { locals = t1; slots = [] }
 
 abbrev T2 : Row.Cx
 T2 = on 8 L.h64 T0
@@ -237,7 +255,7 @@ abbrev T13 : Row.Cx
 T13 = on 7 L.h64 T0
 
 abbrev T14 : Row.Cx
-T14 = on 7 L.h64 T5
+T14 = on 9 L.hbool T13
 
 abbrev T15 : Row.Cx
 T15 = on 10 L.hbool T14
@@ -246,7 +264,7 @@ abbrev T16 : Row.Cx
 T16 = on 1 r16 T13
 
 abbrev T17 : Row.Cx
-T17 = on 9 L.gbool T15
+T17 = on 10 L.hbool T13
 
 abbrev T19 : Row.Cx
 T19 = on 0 r11 T13
@@ -255,7 +273,7 @@ abbrev T20 : Row.Cx
 T20 = on 0 r11 T16
 
 abbrev T21 : Row.Cx
-T21 = on 7 L.h64 T9
+T21 = on 7 L.h64 (on 5 L.h32 T10)
 
 abbrev T22 : Row.Cx
 T22 = on 7 L.h64 T10
@@ -267,22 +285,22 @@ abbrev T25 : Row.Cx
 T25 = on 1 r16 T17
 
 abbrev T28 : Row.Cx
-T28 = on 12 r8 (on 3 r4 T16)
+T28 = record { locals = t20; slots = [] }
 
 abbrev T29 : Row.Cx
-T29 = on 13 r9 (on 3 r4 T16)
+T29 = on 13 r9 (on 12 r12 T28)
 
 abbrev T30 : Row.Cx
-T30 = on 13 r10 (on 11 L.hunit T29)
+T30 = on 13 r10 (on 12 r12 (on 11 L.hunit T28))
 
 abbrev T31 : Row.Cx
 T31 = on 13 r10 T29
 
 abbrev T36 : Row.Cx
-T36 = on 14 r2 (on 2 r0 T16)
+T36 = record { locals = t24; slots = [] }
 
 abbrev T37 : Row.Cx
-T37 = on 14 r3 (on 2 r0 T20)
+T37 = on 14 r3 (on 0 r11 T36)
 
 abbrev T38 : Row.Cx
 T38 = on 7 L.g64 T37
@@ -461,6 +479,10 @@ module _ (cl : Claims) where
       abbrev z0 : List.List Row.Life
       z0 = l0 ∷ l1 ∷ Row.off ∷ Row.off ∷ []
 
+      abbrev g22 : List.List Row.Entry
+      g22 = (0, r14) ∷ (1, r16) ∷ (2, r1) ∷ (3, Relend.mslice-owed S.row y2 1 2 l1) ∷ (4, L.h8) ∷ (5, L.h32) ∷ (6, r15) ∷ (7, L.h64) ∷ (8, L.g64) ∷ (9, L.gbool) ∷ (10, L.gbool) ∷
+          (11, L.hunit) ∷ (12, r12) ∷ (13, r10) ∷ (14, r5) ∷ []
+
       abbrev G0 : Row.Cx
       G0 = lives z0 T0
 
@@ -487,13 +509,13 @@ module _ (cl : Claims) where
         abbrev E : Wp.Env U H
         E = Frame.EnvOf U H (Kinds.tyR r ∷ (Enter.tysP ps xs)) bs
 
-        pre : {Γ Γ₁ : Row.Cx} {b : Y.Body} {Δ : Typed.Outs} {φ : Typed.Tf Γ Γ₁} {Φ : Typed.TF Γ₁ Δ} → Typed.Ghost U H A E Γ Γ₁ φ → Typed.Typed U H A C E Γ₁ b Δ Φ → Typed.Typed U H A C E Γ b
+        pre : {Γ Γ₁ : Row.Cx} {b : Y.Body} {Δ : Typed.Outs} {Φ : Typed.TF Γ₁ Δ} (φ : Typed.Tf Γ Γ₁) → Typed.Ghost U H A E Γ Γ₁ φ → Typed.Typed U H A C E Γ₁ b Δ Φ → Typed.Typed U H A C E Γ b
             Δ (λ Ψ. φ (Φ Ψ))
-        pre = Typed.g-pre U H A W C E _ _ _ _ _ _
+        pre φ = Typed.g-pre U H A W C E _ _ _ _ φ _
 
-        seq : {Γ Γ₁ : Row.Cx} {a b : Y.Body} {Δ : Typed.Outs} {φ : Typed.Tf Γ Γ₁} {Φ : Typed.TF Γ₁ Δ} → Typed.Stmt U H A C E Γ a Γ₁ φ → Typed.Typed U H A C E Γ₁ b Δ Φ → Typed.Typed U H A C E
+        seq : {Γ Γ₁ : Row.Cx} {a b : Y.Body} {Δ : Typed.Outs} {Φ : Typed.TF Γ₁ Δ} (φ : Typed.Tf Γ Γ₁) → Typed.Stmt U H A C E Γ a Γ₁ φ → Typed.Typed U H A C E Γ₁ b Δ Φ → Typed.Typed U H A C E
             Γ (Y.seq a b) Δ (λ Ψ. φ (Φ Ψ))
-        seq = Typed.s-seq U H A W C E _ _ _ _ _ _ _
+        seq φ = Typed.s-seq U H A W C E _ _ _ _ _ φ _
 
         room : {Γ : Row.Cx} (n : Nat.ℕ) (τ : Y.Ty) → Reads.ToRoom U H A (Row.getRow n (Γ .locals) .1) τ → Typed.Ghost U H A E Γ (Scalar.After Γ n (Rows.any-gone τ)) (Typed.pass Γ
             (Scalar.After Γ n (Rows.any-gone τ)) (Scalar.n-room Γ n τ))
@@ -515,78 +537,81 @@ module _ (cl : Claims) where
         reads-sc = Scalar.reads-sc U H A W
 
         d4 : Typed.Typed U H A C E (lives z0 T7) b3 Δ1 at4
-        d4 = pre (room 1 Cache′.mir (Local.room-whole U H A W (Declared.row Cache.the-type) Cache′.mir refl)) (pre (room 4 (Y.tyInt Y.w8) (room-sc (Row.sInt Y.w8))) (pre (room 5 (Y.tyInt
-            Y.w32) (room-sc (Row.sInt Y.w32))) (pre (room 6 (Y.tyInt Y.w16) (room-sc (Row.sInt Y.w16))) (Typed.t-return U H A W C E Δ1 tt))))
+        d4 = pre (Typed.pass T7 T8 s5) (room 1 Cache′.mir (Local.room-whole U H A W (Declared.row Cache.the-type) Cache′.mir refl)) (pre (Typed.pass T8 T9 s6) (room 4 (Y.tyInt Y.w8) (room-sc
+            (Row.sInt Y.w8))) (pre (Typed.pass T9 T10 s7) (room 5 (Y.tyInt Y.w32) (room-sc (Row.sInt Y.w32))) (pre (Typed.pass T10 T1 s8) (room 6 (Y.tyInt Y.w16) (room-sc (Row.sInt Y.w16)))
+            (Typed.t-return U H A W C E Δ1 tt))))
 
         d6 : Typed.Typed U H A C E G5 b4 Δ1 at6
-        d6 = pre (room 9 Y.tyBool (room-sc Row.sBool)) (seq (Plain.t-call-plain U H A W C 0 ps·0 r·0 (cl .0) (cl .1) "datasample_cache::not_set_up" (known .0) E (λ pos β. β) _
-            (record { pos = 1; st = []; d = 0; at = λ x. x }, (Num.vLit 1, tt)) 0 [] (Call.sub-id U H A W _)
+        d6 = pre (Typed.pass T5 T0 s3) (room 9 Y.tyBool (room-sc Row.sBool)) (seq (Typed.both s4) (Plain.t-call-plain U H A W C 0 ps·0 r·0 (cl .0) (cl .1) "datasample_cache::not_set_up"
+            (known .0) E (λ pos β. β) _ (record { pos = 1; st = []; d = 0; at = λ x. x }, (Num.vLit 1, tt)) 0 [] (Call.sub-id U H A W _)
             ((Yields.yields-copy U H A W (λ ρ. Unit) (Declared.row Cache.the-type) refl (Copies.cStruct Cache.the-type Cache′.the-laws Cache′.the-copy .copy U H A W) r13 (λ x. x) (λ x. x) (λ ρ told. Local.mem-whole U H A W (Declared.row Cache.the-type) ρ) λ ρ told. Local.whole-mem U H A W (Declared.row Cache.the-type) ρ, refl), (tt, tt))
             (gone SetUpOutcome′.mir) tt refl) d4)
 
         d8 : Typed.Typed U H A C E G5 b5 Δ1 at8
-        d8 = pre (room 9 Y.tyBool (room-sc Row.sBool)) (Typed.t-skip U H A W C E Δ1 tt)
+        d8 = pre (Typed.pass T5 T0 s3) (room 9 Y.tyBool (room-sc Row.sBool)) (Typed.t-skip U H A W C E Δ1 tt)
 
         d10 : Typed.Typed U H A C E (lives z0 T3) b6 Δ1 at10
-        d10 = pre (room 8 (Y.tyInt Y.w64) (room-sc (Row.sInt Y.w64))) (Scalar.t-cond U H A W E C _ 9 (λ x. x) b4 b5 Δ1 at6 at8 (reads-sc Row.sBool) refl d6 d8)
+        d10 = pre (Typed.pass T3 T5 s2) (room 8 (Y.tyInt Y.w64) (room-sc (Row.sInt Y.w64))) (Scalar.t-cond U H A W E C _ 9 (λ x. x) b4 b5 Δ1 at6 at8 (reads-sc Row.sBool) refl d6 d8)
 
         d16 : Typed.Typed U H A C E (lives z0 T19) b3 Δ2 at16
-        d16 = pre (room 1 Cache′.mir (Local.room-whole U H A W (Declared.row Cache.the-type) Cache′.mir refl)) (pre (room 4 (Y.tyInt Y.w8) (room-sc (Row.sInt Y.w8))) (pre (room 5 (Y.tyInt
-            Y.w32) (room-sc (Row.sInt Y.w32))) (pre (room 6 (Y.tyInt Y.w16) (room-sc (Row.sInt Y.w16))) (pre (room 7 (Y.tyInt Y.w64) (room-sc (Row.sInt Y.w64))) (Typed.t-return U H A W C E
-            Δ2 tt)))))
+        d16 = pre (Typed.pass T19 T20 s16) (room 1 Cache′.mir (Local.room-whole U H A W (Declared.row Cache.the-type) Cache′.mir refl)) (pre (Typed.pass T20 T21 s17) (room 4 (Y.tyInt Y.w8)
+            (room-sc (Row.sInt Y.w8))) (pre (Typed.pass T21 T22 s18) (room 5 (Y.tyInt Y.w32) (room-sc (Row.sInt Y.w32))) (pre (Typed.pass T22 T23 s19) (room 6 (Y.tyInt Y.w16) (room-sc
+            (Row.sInt Y.w16))) (pre (Typed.pass T23 T1 s20) (room 7 (Y.tyInt Y.w64) (room-sc (Row.sInt Y.w64))) (Typed.t-return U H A W C E Δ2 tt)))))
 
         d18 : Typed.Typed U H A C E G17 b12 Δ2 at18
-        d18 = pre (room 10 Y.tyBool (room-sc Row.sBool)) (seq (Plain.t-call-plain U H A W C 0 ps·0 r·0 (cl .0) (cl .1) "datasample_cache::not_set_up" (known .0) E (λ pos β. β) _
-            (record { pos = 1; st = []; d = 0; at = λ x. x }, (Num.vLit 2, tt)) 0 [] (Call.sub-id U H A W _)
+        d18 = pre (Typed.pass T17 T13 s14) (room 10 Y.tyBool (room-sc Row.sBool)) (seq (Typed.both s15) (Plain.t-call-plain U H A W C 0 ps·0 r·0 (cl .0) (cl .1)
+            "datasample_cache::not_set_up" (known .0) E (λ pos β. β) _ (record { pos = 1; st = []; d = 0; at = λ x. x }, (Num.vLit 2, tt)) 0 [] (Call.sub-id U H A W _)
             ((Yields.yields-copy U H A W (λ ρ. Unit) (Declared.row Cache.the-type) refl (Copies.cStruct Cache.the-type Cache′.the-laws Cache′.the-copy .copy U H A W) r13 (λ x. x) (λ x. x) (λ ρ told. Local.mem-whole U H A W (Declared.row Cache.the-type) ρ) λ ρ told. Local.whole-mem U H A W (Declared.row Cache.the-type) ρ, refl), (tt, tt))
             (gone SetUpOutcome′.mir) tt refl) d16)
 
         d21 : Typed.Typed U H A C E G17 b5 Δ2 at21
-        d21 = pre (room 1 Cache′.mir (Local.room-whole U H A W (Declared.row Cache.the-type) Cache′.mir refl)) (pre (room 10 Y.tyBool (room-sc Row.sBool)) (Typed.t-skip U H A W C E Δ2 tt))
+        d21 = pre (Typed.pass T17 T25 s21) (room 1 Cache′.mir (Local.room-whole U H A W (Declared.row Cache.the-type) Cache′.mir refl)) (pre (Typed.pass T25 T16 s22) (room 10 Y.tyBool
+            (room-sc Row.sBool)) (Typed.t-skip U H A W C E Δ2 tt))
 
         d23 : Typed.Typed U H A C E (lives z0 T15) b14 Δ2 at23
-        d23 = pre (room 9 Y.tyBool (room-sc Row.sBool)) (Scalar.t-cond U H A W E C _ 10 (λ x. x) b12 b5 Δ2 at18 at21 (reads-sc Row.sBool) refl d18 d21)
+        d23 = pre (Typed.pass T15 T17 s13) (room 9 Y.tyBool (room-sc Row.sBool)) (Scalar.t-cond U H A W E C _ 10 (λ x. x) b12 b5 Δ2 at18 at21 (reads-sc Row.sBool) refl d18 d21)
 
         d31 : Typed.Typed U H A C E (lives (Row.off ∷ l1 ∷ Row.off ∷ Row.alive ∷ []) (on 2 (Rows.mref-owed (Array.Array L.u64 928) y0 0 3 l0) T37)) b3 Δ0 at31
-        d31 = pre (room 7 (Y.tyInt Y.w64) (room-sc (Row.sInt Y.w64))) (pre (Lifetime.g-end U H A W E _ 3 refl) (pre (Reborrow.g-back-mref U H A W E _ 14 2 0 3 (Array.Array L.u64 928) y0 y1
-            l0 (λ x. x) (λ x. x) (as-is r3) (as-is (Rows.mref-owed (Array.Array L.u64 928) y0 0 3 l0)) refl refl) (pre (Lifetime.g-forget U H A W E _ 3 Row.dead refl) (pre (room 4 (Y.tyInt
-            Y.w8) (room-sc (Row.sInt Y.w8))) (pre (room 5 (Y.tyInt Y.w32) (room-sc (Row.sInt Y.w32))) (pre (room 6 (Y.tyInt Y.w16) (room-sc (Row.sInt Y.w16))) (Typed.t-return U H A W C E Δ0
-            tt)))))))
+        d31 = pre (Typed.pass T37 T38 s34) (room 7 (Y.tyInt Y.w64) (room-sc (Row.sInt Y.w64))) (pre (λ Ψ. Ψ) (Lifetime.g-end U H A W E _ 3 refl) (pre (Typed.ask s36) (Reborrow.g-back-mref U
+            H A W E _ 14 2 0 3 (Array.Array L.u64 928) y0 y1 l0 (λ x. x) (λ x. x) (as-is r3) (as-is (Rows.mref-owed (Array.Array L.u64 928) y0 0 3 l0)) refl refl) (pre (λ Ψ. Ψ)
+            (Lifetime.g-forget U H A W E _ 3 Row.dead refl) (pre (Typed.pass T8 T9 s6) (room 4 (Y.tyInt Y.w8) (room-sc (Row.sInt Y.w8))) (pre (Typed.pass T9 T10 s7) (room 5 (Y.tyInt Y.w32)
+            (room-sc (Row.sInt Y.w32))) (pre (Typed.pass T10 T1 s8) (room 6 (Y.tyInt Y.w16) (room-sc (Row.sInt Y.w16))) (Typed.t-return U H A W C E Δ0 tt)))))))
 
-        d38 : Typed.Typed U H A C E (lives (l0 ∷ Row.off ∷ Row.alive ∷ Row.off ∷ []) (on 3 (Relend.mslice-owed S.row y2 1 2 l1) T30)) b22 Δ0 at38
-        d38 = pre (room 11 Y.tyUnit (room-sc Row.sUnit)) (pre (Lifetime.g-end U H A W E _ 2 refl) (pre (Relend.g-back-sl U H A W E S.row _ 13 3 1 2 y2 y3 l1 (λ x. x) (λ x. x) (as-is r10)
-            (as-is (Relend.mslice-owed S.row y2 1 2 l1)) refl refl) (pre (Lifetime.g-forget U H A W E _ 2 Row.dead refl) (pre (begin 3 _) (seq (Reborrow.t-mref-relend U H A W E C _ 2 14 0 3
-            (Array.Array L.u64 928) y4 y0 y1 l0 (λ x. x) (as-is r1) (gone y1) refl tt refl refl λ b o. tt) (seq (Plain.t-call-plain U H A W C 1 ps·4 r·4 (cl .8) (cl .9)
-            "datasample_cache::begin" (known .4) E (λ pos β. β) _ (record { pos = 14; ty = y1; ref = λ x. x }, (Num.vAt 4 λ x. x, (Num.vAt 7 λ x. x, (Num.vAt 6 λ x. x, tt)))) 0 (3 ∷ [])
-            (Call.sub-id U H A W _)
+        d38 : Typed.Typed U H A C E (record { locals = g22; slots = (l0 ∷ Row.off ∷ Row.alive ∷ Row.off ∷ []) }) b22 Δ0 at38
+        d38 = pre (Typed.pass T30 T31 s27) (room 11 Y.tyUnit (room-sc Row.sUnit)) (pre (λ Ψ. Ψ) (Lifetime.g-end U H A W E _ 2 refl) (pre (Typed.both s29) (Relend.g-back-sl U H A W E S.row _
+            13 3 1 2 y2 y3 l1 (λ x. x) (λ x. x) (as-is r10) (as-is (Relend.mslice-owed S.row y2 1 2 l1)) refl refl) (pre (λ Ψ. Ψ) (Lifetime.g-forget U H A W E _ 2 Row.dead refl) (pre (λ Ψ.
+            Ψ) (begin 3 _) (seq (Typed.give s32) (Reborrow.t-mref-relend U H A W E C _ 2 14 0 3 (Array.Array L.u64 928) y4 y0 y1 l0 (λ x. x) (as-is r1) (gone y1) refl tt refl refl λ b o. tt)
+            (seq (Typed.both s33) (Plain.t-call-plain U H A W C 1 ps·4 r·4 (cl .8) (cl .9) "datasample_cache::begin" (known .4) E (λ pos β. β) _
+            (record { pos = 14; ty = y1; ref = λ x. x }, (Num.vAt 4 λ x. x, (Num.vAt 7 λ x. x, (Num.vAt 6 λ x. x, tt)))) 0 (3 ∷ []) (Call.sub-id U H A W _)
             (as-is r2, Reads.reads-mref U H A W (Array.Array L.u64 928) y1 3, refl, ((reads-sc (Row.sInt Y.w8), refl), ((reads-sc (Row.sInt Y.w64), refl), ((reads-sc (Row.sInt Y.w16), refl), tt))))
             (gone SetUpOutcome′.mir) (tt, tt) refl) d31))))))
 
         d42 : Typed.Typed U H A C E G16 b25 Δ0 at42
-        d42 = pre (begin 2 _) (seq (Relend.t-sl-relend U H A W E S.row C _ 3 12 1 2 y2 y3 l1 0 (λ x. x) (as-is r6) (gone y3) refl tt refl refl refl λ b o. tt) (seq (Relend.t-sl-aggregate U H
-            A W E S.row C (Relend.asMut S.row) _ 12 13 2 y3 y3 (λ x. x) (Scalar.oFld 3 (Y.field 1 ∷ []) (Y.tyInt Y.w64) 8 λ v. Shared.lenV (v .0)) (as-is r8) (gone (L.sl y3))
-            (Relend.reads-owed-len U H A W S.row y2 1 2 l1 8 refl, refl) refl refl λ b o k. tt) (seq (Plain.t-call-plain U H A W C 1 ps·3 r·3 (cl .6) (cl .7) "samples::fill" (known .3) E (λ
-            pos β. β) _ (record { pos = 13; ty = y3; ref = λ x. x }, tt) 11 (2 ∷ []) (Call.sub-id U H A W _) (as-is r9, Mut.reads-mslice U H A W S.row y3 2, refl, tt) (gone Y.tyUnit)
-            (tt, tt) refl) d38)))
+        d42 = pre (λ Ψ. Ψ) (begin 2 _) (seq (Typed.give s24) (Relend.t-sl-relend U H A W E S.row C _ 3 12 1 2 y2 y3 l1 0 (λ x. x) (as-is r6) (gone y3) refl tt refl refl refl λ b o. tt) (seq
+            (Typed.ask s25) (Relend.t-sl-aggregate U H A W E S.row C (Relend.asMut S.row) _ 12 13 2 y3 y3 (λ x. x) (Scalar.oFld 3 (Y.field 1 ∷ []) (Y.tyInt Y.w64) 8 λ v. Shared.lenV (v .0))
+            (as-is r8) (gone (L.sl y3)) (Relend.reads-owed-len U H A W S.row y2 1 2 l1 8 refl, refl) refl refl λ b o k. tt) (seq (Typed.both s26) (Plain.t-call-plain U H A W C 1 ps·3 r·3 (cl
+            .6) (cl .7) "samples::fill" (known .3) E (λ pos β. β) _ (record { pos = 13; ty = y3; ref = λ x. x }, tt) 11 (2 ∷ []) (Call.sub-id U H A W _)
+            (as-is r9, Mut.reads-mslice U H A W S.row y3 2, refl, tt) (gone Y.tyUnit) (tt, tt) refl) d38)))
 
         d44 : Typed.Typed U H A C E (lives z0 T14) b27 Δ0 at44
-        d44 = seq (Scalar.t-op1 U H A W E C _ Y.bitNot (Scalar.oAt 9 Y.tyBool (Row.valS Row.sBool)) 10 L.hbool Y.tyBool (Row.valS Row.sBool) (Row.sBool .of) (reads-sc Row.sBool, refl) (gone
-            Y.tyBool) (Scalar.holds-sc U H A W Row.sBool) refl (λ u. refl) λ u. tt) (Typed.t-seq U H A W C E _ _ b14 b25 Δ0 at23 at42 d23 d42)
+        d44 = seq (Typed.ask s12) (Scalar.t-op1 U H A W E C _ Y.bitNot (Scalar.oAt 9 Y.tyBool (Row.valS Row.sBool)) 10 L.hbool Y.tyBool (Row.valS Row.sBool) (Row.sBool .of)
+            (reads-sc Row.sBool, refl) (gone Y.tyBool) (Scalar.holds-sc U H A W Row.sBool) refl (λ u. refl) λ u. tt) (Typed.t-seq U H A W C E _ _ b14 b25 Δ0 at23 at42 d23 d42)
 
         d45 : Typed.Typed U H A C E (lives z0 T13) b28 Δ0 at45
-        d45 = seq (Plain.t-call-plain U H A W C 0 ps·2 r·2 (cl .4) (cl .5) "datasample_cache::is_within" (known .2) E (λ pos β. β) _
+        d45 = seq (Typed.both s11) (Plain.t-call-plain U H A W C 0 ps·2 r·2 (cl .4) (cl .5) "datasample_cache::is_within" (known .2) E (λ pos β. β) _
             (Num.vAt 4 λ x. x, (Num.vAt 7 λ x. x, (Num.vAt 6 λ x. x, tt))) 9 [] (Call.sub-id U H A W _)
             ((reads-sc (Row.sInt Y.w8), refl), ((reads-sc (Row.sInt Y.w64), refl), ((reads-sc (Row.sInt Y.w16), refl), tt))) (gone Y.tyBool) tt refl) d44
 
         d46 : Typed.Typed U H A C E G0 b29 Δ0 at46
-        d46 = seq (Plain.t-call-plain U H A W C 0 ps·1 r·1 (cl .2) (cl .3) "datasample_cache::depth_of" (known .1) E (λ pos β. β) _ (Num.vAt 5 λ x. x, tt) 7 [] (Call.sub-id U H A W _)
-            ((reads-sc (Row.sInt Y.w32), refl), tt) (gone (Y.tyInt Y.w64)) tt refl) d45
+        d46 = seq (Typed.both s10) (Plain.t-call-plain U H A W C 0 ps·1 r·1 (cl .2) (cl .3) "datasample_cache::depth_of" (known .1) E (λ pos β. β) _ (Num.vAt 5 λ x. x, tt) 7 [] (Call.sub-id
+            U H A W _) ((reads-sc (Row.sInt Y.w32), refl), tt) (gone (Y.tyInt Y.w64)) tt refl) d45
 
         d49 : Typed.Typed U H A C E G0 b32 Δ0 at49
-        d49 = seq (Scalar.t-use U H A W E C _ (Scalar.oFld 3 (Y.field 1 ∷ []) (Y.tyInt Y.w64) 8 Shared.lenV) 8 L.h64 (Y.tyInt Y.w64) (Row.valS (Row.sInt Y.w64)) (Row.sInt Y.w64 .of)
-            (Mut.reads-mslice-len U H A W S.row y2 1 8 refl, refl) (gone (Y.tyInt Y.w64)) (Scalar.holds-sc U H A W (Row.sInt Y.w64)) refl (λ u. refl) λ u. tt) (seq (Scalar.t-op2 U H A W E C
-            _ Y.ne (Scalar.oAt 8 (Y.tyInt Y.w64) (Row.valS (Row.sInt Y.w64))) (Scalar.oInt Y.w64 256) 9 L.hbool Y.tyBool (Row.valS Row.sBool) (Row.sBool .of)
-            (reads-sc (Row.sInt Y.w64), refl) tt (gone Y.tyBool) (Scalar.holds-sc U H A W Row.sBool) refl (λ u. refl) λ u. tt) (Typed.t-seq U H A W C E _ _ b6 b29 Δ0 at10 at46 d10 d46))
+        d49 = seq (Typed.pass T0 T2 s0) (Scalar.t-use U H A W E C _ (Scalar.oFld 3 (Y.field 1 ∷ []) (Y.tyInt Y.w64) 8 Shared.lenV) 8 L.h64 (Y.tyInt Y.w64) (Row.valS (Row.sInt Y.w64))
+            (Row.sInt Y.w64 .of) (Mut.reads-mslice-len U H A W S.row y2 1 8 refl, refl) (gone (Y.tyInt Y.w64)) (Scalar.holds-sc U H A W (Row.sInt Y.w64)) refl (λ u. refl) λ u. tt) (seq
+            (Typed.ask s1) (Scalar.t-op2 U H A W E C _ Y.ne (Scalar.oAt 8 (Y.tyInt Y.w64) (Row.valS (Row.sInt Y.w64))) (Scalar.oInt Y.w64 256) 9 L.hbool Y.tyBool (Row.valS Row.sBool)
+            (Row.sBool .of) (reads-sc (Row.sInt Y.w64), refl) tt (gone Y.tyBool) (Scalar.holds-sc U H A W Row.sBool) refl (λ u. refl) λ u. tt) (Typed.t-seq U H A W C E _ _ b6 b29 Δ0 at10
+            at46 d10 d46))
 
         pub typed : Typed.Typed U H A C E (Function.Γin 2 ps r xs m κs qs) b32 (Function.Δret 2 ps r xs m κs qs) Φ
         typed = d49

@@ -83,6 +83,9 @@ y1 = Y.tyRef Y.erased Y.mut y6
 abbrev y0 : Y.Ty
 y0 = Y.tyRef (Y.named 0) Y.imm (Y.tyArray (Y.tyInt Y.w64) 928)
 
+abbrev r0 : Row.Row
+r0 = Rows'.sref (Array.Array L.u64 928) y0 0
+
 abbrev r1 : Row.Row
 r1 = Rows'.sref (Array.Array L.u64 768) y2 4
 
@@ -92,11 +95,17 @@ r2 = Rows'.mleft (Array.Array L.u64 768) y1
 abbrev r3 : Row.Row
 r3 = Relend.mslice-owed L.u64 y3 2 5 Row.off
 
+abbrev r4 : Row.Row
+r4 = Rows'.any-gone y1
+
 abbrev r5 : Row.Row
 r5 = Rows'.any-gone y2
 
 abbrev r6 : Row.Row
 r6 = Mut.mslice L.u64 y3 2
+
+abbrev r7 : Row.Row
+r7 = Rows'.any-gone (L.sl y4)
 
 abbrev r8 : Row.Row
 r8 = Relend.msptr L.u64 y4 5
@@ -107,8 +116,23 @@ r9 = Mut.mslice L.u64 y4 5
 abbrev r10 : Row.Row
 r10 = Mut.msleft L.u64 y4
 
+abbrev r11 : Row.Row
+r11 = Rows'.sslice S.row y5 1
+
+abbrev r12 : Row.Row
+r12 = Rows'.any-gone y4
+
+abbrev r13 : Row.Row
+r13 = Rows'.whole (Declared'.row ReadCondition.the-type)
+
 abbrev r14 : Row.Row
 r14 = Rows'.any-gone y6
+
+abbrev r15 : Row.Row
+r15 = Rows'.whole (Declared'.row Cache.the-type)
+
+abbrev r16 : Row.Row
+r16 = Rows'.whole (Declared.row Within.the-type)
 
 abbrev r17 : Row.Row
 r17 = Rows'.whole (Declared.row Chosen.the-type)
@@ -196,15 +220,21 @@ abbrev pub Claims : Type 1
 Claims = Kinds.In 0 ps·0 × Kinds.Out 0 ps·0 r·0 × Kinds.In 2 ps·1 × Kinds.Out 2 ps·1 r·1 × Kinds.In 3 ps·2 × Kinds.Out 3 ps·2 r·2
 
 abbrev t0 : List.List Row.Entry
-t0 = (0, r20) ∷ (1, (Rows'.whole (Declared'.row Cache.the-type))) ∷ (2, (Rows'.sref (Array.Array L.u64 928) y0 0)) ∷ (3, (Rows'.sslice S.row y5 1)) ∷
-    (4, (Rows'.whole (Declared.row Within.the-type))) ∷ (5, (Rows'.whole (Declared'.row ReadCondition.the-type))) ∷ (6, r6) ∷ (7, r14) ∷ (8, L.g64) ∷ (9, L.gbool) ∷ (10, L.gunit) ∷
-    (11, (Rows'.any-gone y1)) ∷ (12, r5) ∷ (13, (Rows'.any-gone y4)) ∷ (14, (Rows'.any-gone (L.sl y4))) ∷ []
+t0 = (0, r20) ∷ (1, r15) ∷ (2, r0) ∷ (3, r11) ∷ (4, r16) ∷ (5, r13) ∷ (6, r6) ∷ (7, r14) ∷ (8, L.g64) ∷ (9, L.gbool) ∷ (10, L.gunit) ∷ (11, r4) ∷ (12, r5) ∷ (13, r12) ∷ (14, r7) ∷ []
+
+abbrev t1 : List.List Row.Entry
+t1 = (0, r17) ∷ (1, r22) ∷ (2, r0) ∷ (3, r11) ∷ (4, r21) ∷ (5, r19) ∷ (6, r6) ∷ (7, r14) ∷ (8, L.g64) ∷ (9, L.gbool) ∷ (10, L.gunit) ∷ (11, r4) ∷ (12, r5) ∷ (13, r12) ∷ (14, r7) ∷ []
+
+abbrev t15 : List.List Row.Entry
+t15 = (0, r20) ∷ (1, r15) ∷ (2, r0) ∷ (3, r11) ∷ (4, r16) ∷ (5, r13) ∷ (6, r3) ∷ (7, Rows'.sc-shr (Rows.arrF L.u64 768 0) (Array.Array L.u64 768) (λ x. x) 4) ∷ (8, L.g64) ∷ (9, L.gbool) ∷
+    (10, L.gunit) ∷ (11, r4) ∷ (12, r1) ∷ (13, r8) ∷ (14, r7) ∷ []
+
+abbrev t18 : List.List Row.Entry
+t18 = (0, r17) ∷ (1, r15) ∷ (2, r0) ∷ (3, r11) ∷ (4, r16) ∷ (5, r13) ∷ (6, r3) ∷ (7, Rows'.sc-shr (Rows.arrF L.u64 768 0) (Array.Array L.u64 768) (λ x. x) 4) ∷ (8, L.g64) ∷ (9, L.gbool) ∷
+    (10, L.gunit) ∷ (11, r4) ∷ (12, r5) ∷ (13, r12) ∷ (14, r10) ∷ []
 
 abbrev on : Nat.ℕ → Row.Row → Row.Cx → Row.Cx
 on n r Γ = record { locals = Row.setRow n (n, r) (Γ .locals); slots = Γ .slots }
-
-abbrev life : Nat.ℕ → Row.Life → Row.Cx → Row.Cx
-life n l Γ = record { locals = Γ .locals; slots = Row.setLife n l (Γ .slots) }
 
 abbrev lives : List.List Row.Life → Row.Cx → Row.Cx
 lives ls Γ = record { locals = Γ .locals; slots = ls }
@@ -213,7 +243,7 @@ abbrev T0 : Row.Cx
 T0 = record { locals = t0; slots = [] }
 
 abbrev T1 : Row.Cx
-T1 = on 5 r19 (on 4 r21 (on 1 r22 (on 0 r17 T0)))
+T1 = record { locals = t1; slots = [] }
 
 abbrev T3 : Row.Cx
 T3 = on 8 L.h64 T0
@@ -225,13 +255,13 @@ abbrev T6 : Row.Cx
 T6 = on 8 L.g64 T4
 
 abbrev T7 : Row.Cx
-T7 = on 1 r22 T6
+T7 = on 9 L.hbool (on 1 r22 T0)
 
 abbrev T8 : Row.Cx
 T8 = on 4 r21 T7
 
 abbrev T9 : Row.Cx
-T9 = on 5 r19 T8
+T9 = on 9 L.hbool (on 0 r20 T1)
 
 abbrev T10 : Row.Cx
 T10 = on 0 r20 T1
@@ -246,7 +276,7 @@ abbrev T16 : Row.Cx
 T16 = on 11 (Rows'.mref (Array.Array L.u64 768) y1 3) (on 7 r18 T0)
 
 abbrev T17 : Row.Cx
-T17 = on 11 r2 (on 10 L.hunit T16)
+T17 = on 11 r2 (on 10 L.hunit (on 7 r18 T0))
 
 abbrev T18 : Row.Cx
 T18 = on 11 r2 T16
@@ -255,16 +285,16 @@ abbrev T23 : Row.Cx
 T23 = on 12 r1 (on 7 (Rows'.sc-shr (Rows.arrF L.u64 768 0) (Array.Array L.u64 768) (λ x. x) 4) T0)
 
 abbrev T25 : Row.Cx
-T25 = on 13 r8 (on 6 r3 T23)
+T25 = record { locals = t15; slots = [] }
 
 abbrev T26 : Row.Cx
-T26 = on 14 r9 (on 6 r3 T23)
+T26 = on 14 r9 (on 13 r12 T25)
 
 abbrev T27 : Row.Cx
-T27 = on 14 r10 (on 0 r17 T26)
+T27 = on 14 r10 (on 13 r12 (on 0 r17 T25))
 
 abbrev T28 : Row.Cx
-T28 = on 12 r5 T27
+T28 = record { locals = t18; slots = [] }
 
 abbrev T29 : Row.Cx
 T29 = on 1 r22 T28
@@ -276,10 +306,10 @@ abbrev T31 : Row.Cx
 T31 = on 5 r19 T30
 
 abbrev T33 : Row.Cx
-T33 = on 7 (Rows.arrF L.u64 768 0) T31
+T33 = on 14 r10 (on 7 (Rows.arrF L.u64 768 0) (on 6 r3 T1))
 
 abbrev T35 : Row.Cx
-T35 = on 7 r14 T31
+T35 = on 14 r10 (on 6 r3 T1)
 
 abbrev O0 : Typed.Outs
 O0 = record { next = Option.none; exits = []; returns = Option.some T1 }
@@ -434,9 +464,6 @@ module _ (cl : Claims) where
       abbrev G6 : Row.Cx
       G6 = lives z0 T6
 
-      abbrev G27 : Row.Cx
-      G27 = lives (Row.lease (κs .0) (qs .0) ∷ Row.lease (κs .1 .0) (qs .1 .0) ∷ Row.off ∷ Row.off ∷ Row.alive ∷ Row.alive ∷ []) (on 6 (Relend.mslice-owed L.u64 y3 2 5 l0) T27)
-
       abbrev Δ0 : Typed.Outs
       Δ0 = record { next = Option.none; exits = []; returns = Option.some G1 }
 
@@ -452,13 +479,13 @@ module _ (cl : Claims) where
             (Rows'.whole R) R (λ x. x) (λ x. x)
         copied R one c = Yields.yields-copy U H A W (λ ρ. Unit) R one c (Rows'.whole R) (λ x. x) (λ x. x) (λ ρ told. Local.mem-whole U H A W R ρ) λ ρ told. Local.whole-mem U H A W R ρ
 
-        pre : {Γ Γ₁ : Row.Cx} {b : Y.Body} {Δ : Typed.Outs} {φ : Typed.Tf Γ Γ₁} {Φ : Typed.TF Γ₁ Δ} → Typed.Ghost U H A E Γ Γ₁ φ → Typed.Typed U H A C E Γ₁ b Δ Φ → Typed.Typed U H A C E Γ b
+        pre : {Γ Γ₁ : Row.Cx} {b : Y.Body} {Δ : Typed.Outs} {Φ : Typed.TF Γ₁ Δ} (φ : Typed.Tf Γ Γ₁) → Typed.Ghost U H A E Γ Γ₁ φ → Typed.Typed U H A C E Γ₁ b Δ Φ → Typed.Typed U H A C E Γ b
             Δ (λ Ψ. φ (Φ Ψ))
-        pre = Typed.g-pre U H A W C E _ _ _ _ _ _
+        pre φ = Typed.g-pre U H A W C E _ _ _ _ φ _
 
-        seq : {Γ Γ₁ : Row.Cx} {a b : Y.Body} {Δ : Typed.Outs} {φ : Typed.Tf Γ Γ₁} {Φ : Typed.TF Γ₁ Δ} → Typed.Stmt U H A C E Γ a Γ₁ φ → Typed.Typed U H A C E Γ₁ b Δ Φ → Typed.Typed U H A C E
+        seq : {Γ Γ₁ : Row.Cx} {a b : Y.Body} {Δ : Typed.Outs} {Φ : Typed.TF Γ₁ Δ} (φ : Typed.Tf Γ Γ₁) → Typed.Stmt U H A C E Γ a Γ₁ φ → Typed.Typed U H A C E Γ₁ b Δ Φ → Typed.Typed U H A C E
             Γ (Y.seq a b) Δ (λ Ψ. φ (Φ Ψ))
-        seq = Typed.s-seq U H A W C E _ _ _ _ _ _ _
+        seq φ = Typed.s-seq U H A W C E _ _ _ _ _ φ _
 
         begin : {Γ : Row.Cx} (α : Nat.ℕ) → Row.Fresh α (Γ .locals) → Typed.Ghost U H A E Γ (Lifetime.Begun Γ α) (Typed.pass Γ (Lifetime.Begun Γ α) (λ u. u))
         begin = Lifetime.g-begin U H A W E _
@@ -473,36 +500,42 @@ module _ (cl : Claims) where
         d0 = Typed.t-return U H A W C E Δ1 tt
 
         d5 : Typed.Typed U H A C E G6 b4 Δ1 at5
-        d5 = pre (Scalar.g-room U H A W E _ 1 Cache′.mir (Local.room-whole U H A W (Declared'.row Cache.the-type) Cache′.mir refl)) (pre (Scalar.g-room U H A W E _ 4 Within′.mir
-            (Local.room-whole U H A W (Declared.row Within.the-type) Within′.mir refl)) (pre (Scalar.g-room U H A W E _ 5 ReadCondition′.mir (Local.room-whole U H A W (Declared'.row
-            ReadCondition.the-type) ReadCondition′.mir refl)) (pre (Scalar.g-room U H A W E _ 9 Y.tyBool (Scalar.room-sc U H A W Row.sBool)) (seq (Plain.t-call-plain U H A W C 0 ps·0 r·0 (cl
-            .0) (cl .1) "datasample_select::not_a_table" (known .0) E (λ pos β. β) _ tt 0 [] (Call.sub-id U H A W _) tt (gone Chosen′.mir) tt refl) d0))))
+        d5 = pre (Typed.pass T6 T7 s4) (Scalar.g-room U H A W E _ 1 Cache′.mir (Local.room-whole U H A W (Declared'.row Cache.the-type) Cache′.mir refl)) (pre (Typed.pass T7 T8 s5)
+            (Scalar.g-room U H A W E _ 4 Within′.mir (Local.room-whole U H A W (Declared.row Within.the-type) Within′.mir refl)) (pre (Typed.pass T8 T9 s6) (Scalar.g-room U H A W E _ 5
+            ReadCondition′.mir (Local.room-whole U H A W (Declared'.row ReadCondition.the-type) ReadCondition′.mir refl)) (pre (Typed.pass T9 T10 s7) (Scalar.g-room U H A W E _ 9 Y.tyBool
+            (Scalar.room-sc U H A W Row.sBool)) (seq (Typed.both s8) (Plain.t-call-plain U H A W C 0 ps·0 r·0 (cl .0) (cl .1) "datasample_select::not_a_table" (known .0) E (λ pos β. β) _ tt
+            0 [] (Call.sub-id U H A W _) tt (gone Chosen′.mir) tt refl) d0))))
 
         d7 : Typed.Typed U H A C E G6 b5 Δ1 at7
-        d7 = pre (Scalar.g-room U H A W E _ 9 Y.tyBool (Scalar.room-sc U H A W Row.sBool)) (Typed.t-skip U H A W C E Δ1 tt)
+        d7 = pre (Typed.pass T6 T0 s9) (Scalar.g-room U H A W E _ 9 Y.tyBool (Scalar.room-sc U H A W Row.sBool)) (Typed.t-skip U H A W C E Δ1 tt)
 
         d9 : Typed.Typed U H A C E (lives z0 T4) b6 Δ1 at9
-        d9 = pre (Scalar.g-room U H A W E _ 8 (Y.tyInt Y.w64) (Scalar.room-sc U H A W (Row.sInt Y.w64))) (Scalar.t-cond U H A W E C _ 9 (λ x. x) b4 b5 Δ1 at5 at7 (Scalar.reads-sc U H A W
-            Row.sBool) refl d5 d7)
+        d9 = pre (Typed.pass T4 T6 s3) (Scalar.g-room U H A W E _ 8 (Y.tyInt Y.w64) (Scalar.room-sc U H A W (Row.sInt Y.w64))) (Scalar.t-cond U H A W E C _ 9 (λ x. x) b4 b5 Δ1 at5 at7
+            (Scalar.reads-sc U H A W Row.sBool) refl d5 d7)
 
-        d17 : Typed.Typed U H A C E (life 4 Row.dead (on 12 r5 (on 5 r19 (on 4 r21 (on 1 r22 G27))))) b3 Δ0 at17
-        d17 = pre (Local.g-back-shr U H A W E _ 7 4 (Rows.arrF L.u64 768 0) (Array.Array L.u64 768) (λ x. x) (λ x. x) (as-is (Rows'.sc-shr (Rows.arrF L.u64 768 0) (Array.Array L.u64 768) (λ
-            x. x) 4)) (Local.home-of U H A (Rows.arrF L.u64 768 0) (Array.Array L.u64 768) (λ x. x) (λ x. x) (Whole.arr-mem U H A W L.u64 768 tt) λ x k. refl) refl) (pre (Lifetime.g-forget U
-            H A W E _ 4 Row.dead refl) (pre (Scalar.g-room U H A W E _ 7 y6 (Init.room-arr U H A W L.u64 768 0 768 refl)) (pre (Lifetime.g-end U H A W E _ 5 refl) (pre (Relend.g-back-sl U H
-            A W E L.u64 _ 14 6 2 5 y3 y4 l0 (λ x. x) (λ x. x) (as-is r10) (as-is (Relend.mslice-owed L.u64 y3 2 5 l0)) refl refl) (pre (Know.g-sl-known U H A W (Referent.fInt Y.w64) E _ 6 2
-            y3 l0 0 (λ x. x) record { fits = Dec'.lit< tt } (as-is r6) refl tt) (pre (Lifetime.g-forget U H A W E _ 5 Row.dead refl) (Typed.t-return U H A W C E Δ0 tt)))))))
+        d17 : Typed.Typed U H A C E (lives (Row.lease (κs .0) (qs .0) ∷ Row.lease (κs .1 .0) (qs .1 .0) ∷ Row.off ∷ Row.off ∷ Row.dead ∷ Row.alive ∷ []) (on 14 r10 (on 7 (Rows'.sc-shr
+            (Rows.arrF L.u64 768 0) (Array.Array L.u64 768) (λ x. x) 4) (on 6 (Relend.mslice-owed L.u64 y3 2 5 l0) T1)))) b3 Δ0 at17
+        d17 = pre (Typed.pass T31 T33 s30) (Local.g-back-shr U H A W E _ 7 4 (Rows.arrF L.u64 768 0) (Array.Array L.u64 768) (λ x. x) (λ x. x) (as-is (Rows'.sc-shr (Rows.arrF L.u64 768 0)
+            (Array.Array L.u64 768) (λ x. x) 4)) (Local.home-of U H A (Rows.arrF L.u64 768 0) (Array.Array L.u64 768) (λ x. x) (λ x. x) (Whole.arr-mem U H A W L.u64 768 tt) λ x k. refl)
+            refl) (pre (λ Ψ. Ψ) (Lifetime.g-forget U H A W E _ 4 Row.dead refl) (pre (Typed.pass T33 T35 s32) (Scalar.g-room U H A W E _ 7 y6 (Init.room-arr U H A W L.u64 768 0 768 refl))
+            (pre (λ Ψ. Ψ) (Lifetime.g-end U H A W E _ 5 refl) (pre (Typed.both s34) (Relend.g-back-sl U H A W E L.u64 _ 14 6 2 5 y3 y4 l0 (λ x. x) (λ x. x) (as-is r10) (as-is
+            (Relend.mslice-owed L.u64 y3 2 5 l0)) refl refl) (pre (Typed.give s35) (Know.g-sl-known U H A W (Referent.fInt Y.w64) E _ 6 2 y3 l0 0 (λ x. x) record { fits = Dec'.lit< tt }
+            (as-is r6) refl tt) (pre (λ Ψ. Ψ) (Lifetime.g-forget U H A W E _ 5 Row.dead refl) (Typed.t-return U H A W C E Δ0 tt)))))))
 
-        d22 : Typed.Typed U H A C E G27 b3 Δ0 at22
-        d22 = pre (Local.g-drop-sref U H A W E _ 12 4 (Array.Array L.u64 768) y2 (λ x. x) (as-is r1)) (pre (Scalar.g-room U H A W E _ 1 Cache′.mir (Local.room-whole U H A W (Declared'.row
-            Cache.the-type) Cache′.mir refl)) (pre (Scalar.g-room U H A W E _ 4 Within′.mir (Local.room-whole U H A W (Declared.row Within.the-type) Within′.mir refl)) (pre (Scalar.g-room U
-            H A W E _ 5 ReadCondition′.mir (Local.room-whole U H A W (Declared'.row ReadCondition.the-type) ReadCondition′.mir refl)) (pre (Lifetime.g-end U H A W E _ 4 refl) d17))))
+        d22 : Typed.Typed U H A C E (lives (Row.lease (κs .0) (qs .0) ∷ Row.lease (κs .1 .0) (qs .1 .0) ∷ Row.off ∷ Row.off ∷ Row.alive ∷ Row.alive ∷ []) (on 12 r1 (on 6 (Relend.mslice-owed
+            L.u64 y3 2 5 l0) T28))) b3 Δ0 at22
+        d22 = pre (Typed.pass T27 T28 s25) (Local.g-drop-sref U H A W E _ 12 4 (Array.Array L.u64 768) y2 (λ x. x) (as-is r1)) (pre (Typed.pass T28 T29 s26) (Scalar.g-room U H A W E _ 1
+            Cache′.mir (Local.room-whole U H A W (Declared'.row Cache.the-type) Cache′.mir refl)) (pre (Typed.pass T29 T30 s27) (Scalar.g-room U H A W E _ 4 Within′.mir (Local.room-whole U H
+            A W (Declared.row Within.the-type) Within′.mir refl)) (pre (Typed.pass T30 T31 s28) (Scalar.g-room U H A W E _ 5 ReadCondition′.mir (Local.room-whole U H A W (Declared'.row
+            ReadCondition.the-type) ReadCondition′.mir refl)) (pre (λ Ψ. Ψ) (Lifetime.g-end U H A W E _ 4 refl) d17))))
 
         d30 : Typed.Typed U H A C E (lives (Row.lease (κs .0) (qs .0) ∷ Row.lease (κs .1 .0) (qs .1 .0) ∷ l0 ∷ Row.dead ∷ Row.off ∷ Row.off ∷ []) T18) b18 Δ0 at30
-        d30 = pre (Local.g-back-sc U H A W E _ 11 7 3 (Array.Array L.u64 768) y1 (Rows.arrF L.u64 768 0) (λ x. x) (λ x. x) (λ x. x) (as-is r2) (as-is r18) (Whole.arr-mem U H A W L.u64 768
-            tt) refl) (pre (Lifetime.g-forget U H A W E _ 3 Row.dead refl) (pre (begin 4 _) (seq (Local.t-sc-share U H A W E C _ 7 12 4 (Array.Array L.u64 768) y2 (λ x. x) (Whole.mem-arr U H
-            A W L.u64 768) (gone y2) refl λ b o. tt) (pre (begin 5 _) (seq (Relend.t-sl-relend U H A W E L.u64 C _ 6 13 2 5 y3 y4 l0 0 (λ x. x) (as-is r6) (gone y4) refl tt refl refl refl λ
-            b o. tt) (seq (Relend.t-sl-aggregate U H A W E L.u64 C (Relend.asMut L.u64) _ 13 14 5 y4 y4 (λ x. x) (Scalar.oFld 6 (Y.field 1 ∷ []) (Y.tyInt Y.w64) 8 λ v. Shared.lenV (v .0))
-            (as-is r8) (gone (L.sl y4)) (Relend.reads-owed-len U H A W L.u64 y3 2 5 l0 8 refl, refl) refl refl λ b o k. tt) (seq (Plain.t-call-plain U H A W C 3 ps·2 r·2 (cl .4) (cl .5)
+        d30 = pre (Typed.ask s17) (Local.g-back-sc U H A W E _ 11 7 3 (Array.Array L.u64 768) y1 (Rows.arrF L.u64 768 0) (λ x. x) (λ x. x) (λ x. x) (as-is r2) (as-is r18) (Whole.arr-mem U H
+            A W L.u64 768 tt) refl) (pre (λ Ψ. Ψ) (Lifetime.g-forget U H A W E _ 3 Row.dead refl) (pre (λ Ψ. Ψ) (begin 4 _) (seq (Typed.give s20) (Local.t-sc-share U H A W E C _ 7 12 4
+            (Array.Array L.u64 768) y2 (λ x. x) (Whole.mem-arr U H A W L.u64 768) (gone y2) refl λ b o. tt) (pre (λ Ψ. Ψ) (begin 5 _) (seq (Typed.give s22) (Relend.t-sl-relend U H A W E
+            L.u64 C _ 6 13 2 5 y3 y4 l0 0 (λ x. x) (as-is r6) (gone y4) refl tt refl refl refl λ b o. tt) (seq (Typed.ask s23) (Relend.t-sl-aggregate U H A W E L.u64 C (Relend.asMut L.u64) _
+            13 14 5 y4 y4 (λ x. x) (Scalar.oFld 6 (Y.field 1 ∷ []) (Y.tyInt Y.w64) 8 λ v. Shared.lenV (v .0)) (as-is r8) (gone (L.sl y4))
+            (Relend.reads-owed-len U H A W L.u64 y3 2 5 l0 8 refl, refl) refl refl λ b o k. tt) (seq (Typed.both s24) (Plain.t-call-plain U H A W C 3 ps·2 r·2 (cl .4) (cl .5)
             "select::select" (known .2) E (λ pos β. β) _
             (record { pos = 1; st = []; d = 0; at = λ x. x }, (record { pos = 2; ty = y0; ref = λ x. x }, (record { pos = 12; ty = y2; ref = λ x. x }, (record { pos = 4; st = []; d = 0; at = λ x. x }, (record { pos = 5; st = []; d = 0; at = λ x. x }, (record { pos = 14; ty = y4; ref = λ x. x }, tt))))))
             0 (0 ∷ 4 ∷ 5 ∷ []) (Call.sub-id U H A W _)
@@ -510,23 +543,25 @@ module _ (cl : Claims) where
             (gone Chosen′.mir) (tt, (tt, (tt, tt))) refl) d22)))))))
 
         d32 : Typed.Typed U H A C E (lives (Row.lease (κs .0) (qs .0) ∷ Row.lease (κs .1 .0) (qs .1 .0) ∷ l0 ∷ Row.alive ∷ Row.off ∷ Row.off ∷ []) T17) b18 Δ0 at32
-        d32 = pre (Scalar.g-room U H A W E _ 10 Y.tyUnit (Scalar.room-sc U H A W Row.sUnit)) (pre (Lifetime.g-end U H A W E _ 3 refl) d30)
+        d32 = pre (Typed.pass T17 T18 s15) (Scalar.g-room U H A W E _ 10 Y.tyUnit (Scalar.room-sc U H A W Row.sUnit)) (pre (λ Ψ. Ψ) (Lifetime.g-end U H A W E _ 3 refl) d30)
 
         d37 : Typed.Typed U H A C E G0 b21 Δ0 at37
-        d37 = seq (Repeat.t-repeat U H A W E C L.u64 (Plain'.uint-lawful U H A W Y.w64) (Copies.cRf (Referent.fInt Y.w64) .copy U H A W) (Plain'.uint-makes U H A W Y.w64) 768 _ 7
-            (Scalar.oInt Y.w64 0) (λ m. 0) (gone y6) tt refl λ m wa. (refl, Dec'.lit< tt)) (pre (AtSlots.g-as-by U H A W E (λ ρ. Unit) _ 7 (Rows.arrF L.u64 768 0) (λ x. x) (Own.told-none U H
-            A ((lives z0 T13) .slots)) λ ρ told. Repeat.whole-arr U H A W L.u64 768 tt ρ) (pre (begin 3 _) (seq (Local.t-sc-borrow U H A W E C _ 7 11 3 (Array.Array L.u64 768) y1 (λ x. x)
-            (Whole.mem-arr U H A W L.u64 768) (gone y1) refl λ b o. tt) (seq (Plain.t-call-plain U H A W C 2 ps·1 r·1 (cl .2) (cl .3) "samples::gather" (known .1) E (λ pos β. β) _
-            (record { pos = 3; ty = y5; ref = λ x. x }, (record { pos = 11; ty = y1; ref = λ x. x }, tt)) 10 (1 ∷ 3 ∷ []) (Call.sub-id U H A W _)
+        d37 = seq (Typed.pass T0 T13 s10) (Repeat.t-repeat U H A W E C L.u64 (Plain'.uint-lawful U H A W Y.w64) (Copies.cRf (Referent.fInt Y.w64) .copy U H A W) (Plain'.uint-makes U H A W
+            Y.w64) 768 _ 7 (Scalar.oInt Y.w64 0) (λ m. 0) (gone y6) tt refl λ m wa. (refl, Dec'.lit< tt)) (pre (Typed.pass T13 T14 s11) (AtSlots.g-as-by U H A W E (λ ρ. Unit) _ 7 (Rows.arrF
+            L.u64 768 0) (λ x. x) (Own.told-none U H A ((lives z0 T13) .slots)) λ ρ told. Repeat.whole-arr U H A W L.u64 768 tt ρ) (pre (λ Ψ. Ψ) (begin 3 _) (seq (Typed.give s13)
+            (Local.t-sc-borrow U H A W E C _ 7 11 3 (Array.Array L.u64 768) y1 (λ x. x) (Whole.mem-arr U H A W L.u64 768) (gone y1) refl λ b o. tt) (seq (Typed.both s14) (Plain.t-call-plain
+            U H A W C 2 ps·1 r·1 (cl .2) (cl .3) "samples::gather" (known .1) E (λ pos β. β) _ (record { pos = 3; ty = y5; ref = λ x. x }, (record { pos = 11; ty = y1; ref = λ x. x }, tt))
+            10 (1 ∷ 3 ∷ []) (Call.sub-id U H A W _)
             (ShrSlice.spares-sslice U H A W S.row y5 1, Shared.reads-sslice U H A W S.row y5 1, refl, (as-is (Rows'.mref (Array.Array L.u64 768) y1 3), Reads.reads-mref U H A W (Array.Array L.u64 768) y1 3, refl, tt))
             (gone Y.tyUnit) (tt, (tt, tt)) refl) d32))))
 
         d41 : Typed.Typed U H A C E G0 b24 Δ0 at41
-        d41 = pre (Know.g-sl-known U H A W (Referent.fInt Y.w64) E _ 6 2 y3 l0 0 (λ x. x) record { fits = Dec'.lit< tt } (as-is r6) refl tt) (seq (Scalar.t-use U H A W E C _ (Scalar.oFld 3
-            (Y.field 1 ∷ []) (Y.tyInt Y.w64) 8 Shared.lenV) 8 L.h64 (Y.tyInt Y.w64) (Row.valS (Row.sInt Y.w64)) (Row.sInt Y.w64 .of) (Shared.reads-sslice-len U H A W S.row y5 1 8 refl, refl)
-            (gone (Y.tyInt Y.w64)) (Scalar.holds-sc U H A W (Row.sInt Y.w64)) refl (λ u. refl) λ u. tt) (seq (Scalar.t-op2 U H A W E C _ Y.ne (Scalar.oAt 8 (Y.tyInt Y.w64) (Row.valS
-            (Row.sInt Y.w64))) (Scalar.oInt Y.w64 256) 9 L.hbool Y.tyBool (Row.valS Row.sBool) (Row.sBool .of) (Scalar.reads-sc U H A W (Row.sInt Y.w64), refl) tt (gone Y.tyBool)
-            (Scalar.holds-sc U H A W Row.sBool) refl (λ u. refl) λ u. tt) (Typed.t-seq U H A W C E _ _ b6 b21 Δ0 at9 at37 d9 d37)))
+        d41 = pre (Typed.give s0) (Know.g-sl-known U H A W (Referent.fInt Y.w64) E _ 6 2 y3 l0 0 (λ x. x) record { fits = Dec'.lit< tt } (as-is r6) refl tt) (seq (Typed.pass T0 T3 s1)
+            (Scalar.t-use U H A W E C _ (Scalar.oFld 3 (Y.field 1 ∷ []) (Y.tyInt Y.w64) 8 Shared.lenV) 8 L.h64 (Y.tyInt Y.w64) (Row.valS (Row.sInt Y.w64)) (Row.sInt Y.w64 .of)
+            (Shared.reads-sslice-len U H A W S.row y5 1 8 refl, refl) (gone (Y.tyInt Y.w64)) (Scalar.holds-sc U H A W (Row.sInt Y.w64)) refl (λ u. refl) λ u. tt) (seq (Typed.ask s2)
+            (Scalar.t-op2 U H A W E C _ Y.ne (Scalar.oAt 8 (Y.tyInt Y.w64) (Row.valS (Row.sInt Y.w64))) (Scalar.oInt Y.w64 256) 9 L.hbool Y.tyBool (Row.valS Row.sBool) (Row.sBool .of)
+            (Scalar.reads-sc U H A W (Row.sInt Y.w64), refl) tt (gone Y.tyBool) (Scalar.holds-sc U H A W Row.sBool) refl (λ u. refl) λ u. tt) (Typed.t-seq U H A W C E _ _ b6 b21 Δ0 at9 at37
+            d9 d37)))
 
         pub typed : Typed.Typed U H A C E (Function.Γin 3 ps r xs m κs qs) b24 (Function.Δret 3 ps r xs m κs qs) Φ
         typed = d41

@@ -71,11 +71,17 @@ y1 = Y.tyRef (Y.named 2) Y.mut (Y.tyInt Y.w64)
 abbrev y0 : Y.Ty
 y0 = Y.tyRef (Y.named 0) Y.imm (Y.tyArray (Y.tyInt Y.w64) 928)
 
+abbrev r0 : Row.Row
+r0 = Rows.sref (Array.Array L.u64 928) y0 0
+
 abbrev r1 : Row.Row
 r1 = Relend.mslice-owed L.u64 y1 2 3 Row.off
 
 abbrev r2 : Row.Row
 r2 = Mut.mslice L.u64 y1 2
+
+abbrev r3 : Row.Row
+r3 = Rows.any-gone (L.sl y2)
 
 abbrev r4 : Row.Row
 r4 = Relend.msptr L.u64 y2 3
@@ -86,8 +92,23 @@ r5 = Mut.mslice L.u64 y2 3
 abbrev r6 : Row.Row
 r6 = Mut.msleft L.u64 y2
 
+abbrev r7 : Row.Row
+r7 = Rows.sslice S.row y3 1
+
+abbrev r8 : Row.Row
+r8 = Rows.any-gone y2
+
+abbrev r9 : Row.Row
+r9 = Rows.whole (Declared'.row ReadCondition.the-type)
+
+abbrev r10 : Row.Row
+r10 = Rows.whole (Declared'.row Cache.the-type)
+
 abbrev r11 : Row.Row
 r11 = Rows.whole (Declared.row Chosen.the-type)
+
+abbrev r12 : Row.Row
+r12 = Rows.whole (Declared.row Within.the-type)
 
 abbrev r13 : Row.Row
 r13 = Rows.any-gone ReadCondition′.mir
@@ -136,8 +157,13 @@ abbrev pub Claims : Type 1
 Claims = Kinds.In 3 ps·0 × Kinds.Out 3 ps·0 r·0
 
 abbrev t0 : List.List Row.Entry
-t0 = (0, (Rows.any-gone Chosen′.mir)) ∷ (1, (Rows.whole (Declared'.row Cache.the-type))) ∷ (2, (Rows.sref (Array.Array L.u64 928) y0 0)) ∷ (3, (Rows.sslice S.row y3 1)) ∷ (4, L.h64) ∷
-    (5, (Rows.whole (Declared'.row ReadCondition.the-type))) ∷ (6, r2) ∷ (7, r15) ∷ (8, (Rows.any-gone y2)) ∷ (9, (Rows.any-gone (L.sl y2))) ∷ []
+t0 = (0, (Rows.any-gone Chosen′.mir)) ∷ (1, r10) ∷ (2, r0) ∷ (3, r7) ∷ (4, L.h64) ∷ (5, r9) ∷ (6, r2) ∷ (7, r15) ∷ (8, r8) ∷ (9, r3) ∷ []
+
+abbrev t1 : List.List Row.Entry
+t1 = (0, r11) ∷ (1, r16) ∷ (2, r0) ∷ (3, r7) ∷ (4, L.g64) ∷ (5, r13) ∷ (6, r2) ∷ (7, r15) ∷ (8, r8) ∷ (9, r3) ∷ []
+
+abbrev t5 : List.List Row.Entry
+t5 = (0, r11) ∷ (1, r10) ∷ (2, r0) ∷ (3, r7) ∷ (4, L.h64) ∷ (5, r9) ∷ (6, r1) ∷ (7, r12) ∷ (8, r8) ∷ (9, r6) ∷ []
 
 abbrev on : Nat.ℕ → Row.Row → Row.Cx → Row.Cx
 on n r Γ = record { locals = Row.setRow n (n, r) (Γ .locals); slots = Γ .slots }
@@ -149,10 +175,10 @@ abbrev T0 : Row.Cx
 T0 = record { locals = t0; slots = [] }
 
 abbrev T1 : Row.Cx
-T1 = on 5 r13 (on 4 L.g64 (on 1 r16 (on 0 r11 T0)))
+T1 = record { locals = t1; slots = [] }
 
 abbrev T3 : Row.Cx
-T3 = on 7 (Rows.whole (Declared.row Within.the-type)) T0
+T3 = on 7 r12 T0
 
 abbrev T5 : Row.Cx
 T5 = on 8 r4 (on 6 r1 T3)
@@ -161,7 +187,7 @@ abbrev T6 : Row.Cx
 T6 = on 9 r5 (on 6 r1 T3)
 
 abbrev T7 : Row.Cx
-T7 = on 9 r6 (on 0 r11 T6)
+T7 = record { locals = t5; slots = [] }
 
 abbrev T8 : Row.Cx
 T8 = on 1 r16 T7
@@ -257,39 +283,40 @@ module _ (cl : Claims) where
             (Rows.whole R) R (λ x. x) (λ x. x)
         copied R one c = Yields.yields-copy U H A W (λ ρ. Unit) R one c (Rows.whole R) (λ x. x) (λ x. x) (λ ρ told. Local.mem-whole U H A W R ρ) λ ρ told. Local.whole-mem U H A W R ρ
 
-        pre : {Γ Γ₁ : Row.Cx} {b : Y.Body} {Δ : Typed.Outs} {φ : Typed.Tf Γ Γ₁} {Φ : Typed.TF Γ₁ Δ} → Typed.Ghost U H A E Γ Γ₁ φ → Typed.Typed U H A C E Γ₁ b Δ Φ → Typed.Typed U H A C E Γ b
+        pre : {Γ Γ₁ : Row.Cx} {b : Y.Body} {Δ : Typed.Outs} {Φ : Typed.TF Γ₁ Δ} (φ : Typed.Tf Γ Γ₁) → Typed.Ghost U H A E Γ Γ₁ φ → Typed.Typed U H A C E Γ₁ b Δ Φ → Typed.Typed U H A C E Γ b
             Δ (λ Ψ. φ (Φ Ψ))
-        pre = Typed.g-pre U H A W C E _ _ _ _ _ _
+        pre φ = Typed.g-pre U H A W C E _ _ _ _ φ _
 
-        seq : {Γ Γ₁ : Row.Cx} {a b : Y.Body} {Δ : Typed.Outs} {φ : Typed.Tf Γ Γ₁} {Φ : Typed.TF Γ₁ Δ} → Typed.Stmt U H A C E Γ a Γ₁ φ → Typed.Typed U H A C E Γ₁ b Δ Φ → Typed.Typed U H A C E
+        seq : {Γ Γ₁ : Row.Cx} {a b : Y.Body} {Δ : Typed.Outs} {Φ : Typed.TF Γ₁ Δ} (φ : Typed.Tf Γ Γ₁) → Typed.Stmt U H A C E Γ a Γ₁ φ → Typed.Typed U H A C E Γ₁ b Δ Φ → Typed.Typed U H A C E
             Γ (Y.seq a b) Δ (λ Ψ. φ (Φ Ψ))
-        seq = Typed.s-seq U H A W C E _ _ _ _ _ _ _
+        seq φ = Typed.s-seq U H A W C E _ _ _ _ _ φ _
 
         as-is : (r : Row.Row) → Reads.As U H A r r (λ x. x)
         as-is = Reads.as-is U H A
 
         d7 : Typed.Typed U H A C E (on 1 r16 G7) b4 Δ0 at7
-        d7 = pre (Scalar.g-room U H A W E _ 5 ReadCondition′.mir (Local.room-whole U H A W (Declared'.row ReadCondition.the-type) ReadCondition′.mir refl)) (pre (Scalar.g-room U H A W E _ 7
-            Within′.mir (Local.room-whole U H A W (Declared.row Within.the-type) Within′.mir refl)) (pre (Lifetime.g-end U H A W E _ 3 refl) (pre (Relend.g-back-sl U H A W E L.u64 _ 9 6 2 3
-            y1 y2 l0 (λ x. x) (λ x. x) (as-is r6) (as-is (Relend.mslice-owed L.u64 y1 2 3 l0)) refl refl) (pre (Know.g-sl-known U H A W (Referent.fInt Y.w64) E _ 6 2 y1 l0 0 (λ x. x) record
-            { fits = Dec'.lit< tt } (as-is r2) refl tt) (pre (Lifetime.g-forget U H A W E _ 3 Row.dead refl) (pre (Scalar.g-room U H A W E _ 4 (Y.tyInt Y.w64) (Scalar.room-sc U H A W
-            (Row.sInt Y.w64))) (Typed.t-return U H A W C E Δ0 tt)))))))
+        d7 = pre (Typed.pass T8 T9 s7) (Scalar.g-room U H A W E _ 5 ReadCondition′.mir (Local.room-whole U H A W (Declared'.row ReadCondition.the-type) ReadCondition′.mir refl)) (pre
+            (Typed.pass T9 T10 s8) (Scalar.g-room U H A W E _ 7 Within′.mir (Local.room-whole U H A W (Declared.row Within.the-type) Within′.mir refl)) (pre (λ Ψ. Ψ) (Lifetime.g-end U H A W
+            E _ 3 refl) (pre (Typed.both s10) (Relend.g-back-sl U H A W E L.u64 _ 9 6 2 3 y1 y2 l0 (λ x. x) (λ x. x) (as-is r6) (as-is (Relend.mslice-owed L.u64 y1 2 3 l0)) refl refl) (pre
+            (Typed.give s11) (Know.g-sl-known U H A W (Referent.fInt Y.w64) E _ 6 2 y1 l0 0 (λ x. x) record { fits = Dec'.lit< tt } (as-is r2) refl tt) (pre (λ Ψ. Ψ) (Lifetime.g-forget U H A
+            W E _ 3 Row.dead refl) (pre (Typed.pass T12 T1 s13) (Scalar.g-room U H A W E _ 4 (Y.tyInt Y.w64) (Scalar.room-sc U H A W (Row.sInt Y.w64))) (Typed.t-return U H A W C E Δ0
+            tt)))))))
 
         d8 : Typed.Typed U H A C E G7 b4 Δ0 at8
-        d8 = pre (Scalar.g-room U H A W E _ 1 Cache′.mir (Local.room-whole U H A W (Declared'.row Cache.the-type) Cache′.mir refl)) d7
+        d8 = pre (Typed.pass T7 T8 s6) (Scalar.g-room U H A W E _ 1 Cache′.mir (Local.room-whole U H A W (Declared'.row Cache.the-type) Cache′.mir refl)) d7
 
         d14 : Typed.Typed U H A C E (lives z0 T0) b8 Δ0 at14
-        d14 = pre (Know.g-sl-known U H A W (Referent.fInt Y.w64) E _ 6 2 y1 l0 0 (λ x. x) record { fits = Dec'.lit< tt } (as-is r2) refl tt) (seq (Make.t-enum-make-wt U H A W E C
-            Within.the-type Within′.the-laws Within′.the-plain tt _ 7 (Scalar.oInt Y.w8 1 ∷ Scalar.oAt 4 (Y.tyInt Y.w64) (Row.valS (Row.sInt Y.w64)) ∷ []) (λ m. Within.enum .make (Logic.inr
-            (Logic.inl (m .1 .1 .1 .1 .0, tt)))) (Reads.room-gone U H A Within′.mir) (tt, ((Scalar.reads-sc U H A W (Row.sInt Y.w64), refl), tt)) refl (λ m wa. Make.made-val Within.the-type
-            Within′.the-laws (Within′.the-laws .1 .0 .0 .val (m .1 .1 .1 .1 .0) ∷ []) (Within.enum .make (Logic.inr (Logic.inl (m .1 .1 .1 .1 .0, tt))))
+        d14 = pre (Typed.give s0) (Know.g-sl-known U H A W (Referent.fInt Y.w64) E _ 6 2 y1 l0 0 (λ x. x) record { fits = Dec'.lit< tt } (as-is r2) refl tt) (seq (Typed.pass T0 T3 s1)
+            (Make.t-enum-make-wt U H A W E C Within.the-type Within′.the-laws Within′.the-plain tt _ 7 (Scalar.oInt Y.w8 1 ∷ Scalar.oAt 4 (Y.tyInt Y.w64) (Row.valS (Row.sInt Y.w64)) ∷ []) (λ
+            m. Within.enum .make (Logic.inr (Logic.inl (m .1 .1 .1 .1 .0, tt)))) (Reads.room-gone U H A Within′.mir) (tt, ((Scalar.reads-sc U H A W (Row.sInt Y.w64), refl), tt)) refl (λ m
+            wa. Make.made-val Within.the-type Within′.the-laws (Within′.the-laws .1 .0 .0 .val (m .1 .1 .1 .1 .0) ∷ []) (Within.enum .make (Logic.inr (Logic.inl (m .1 .1 .1 .1 .0, tt))))
             (Signed.made-wt Field.u64-field (Within′.the-laws .1 .0 .0) Make'.u64-wt (m .1 .1 .1 .1 .0), tt) (wa .1)) λ m wa. Make.made-is Within.the-type Within′.the-laws (Within′.the-laws
             .1 .0 .0 .val (m .1 .1 .1 .1 .0) ∷ []) (Within.enum .make (Logic.inr (Logic.inl (m .1 .1 .1 .1 .0, tt))))
-            (Signed.made-wt Field.u64-field (Within′.the-laws .1 .0 .0) Make'.u64-wt (m .1 .1 .1 .1 .0), tt) (wa .1)) (pre (Lifetime.g-begin U H A W E _ 3
-            (tt, (tt, (tt, (tt, (tt, (tt, (tt, (tt, (tt, (tt, tt))))))))))) (seq (Relend.t-sl-relend U H A W E L.u64 C _ 6 8 2 3 y1 y2 l0 0 (λ x. x) (as-is r2) (Reads.room-gone U H A y2)
-            refl tt refl refl refl λ b o. tt) (seq (Relend.t-sl-aggregate U H A W E L.u64 C (Relend.asMut L.u64) _ 8 9 3 y2 y2 (λ x. x) (Scalar.oFld 6 (Y.field 1 ∷ []) (Y.tyInt Y.w64) 8 λ v.
-            Shared.lenV (v .0)) (as-is r4) (Reads.room-gone U H A (L.sl y2)) (Relend.reads-owed-len U H A W L.u64 y1 2 3 l0 8 refl, refl) refl refl λ b o k. tt) (seq (Plain.t-call-plain U H
-            A W C 3 ps·0 r·0 (cl .0) (cl .1) "datasample_select::choose" known E (λ pos β. β) _
+            (Signed.made-wt Field.u64-field (Within′.the-laws .1 .0 .0) Make'.u64-wt (m .1 .1 .1 .1 .0), tt) (wa .1)) (pre (λ Ψ. Ψ) (Lifetime.g-begin U H A W E _ 3
+            (tt, (tt, (tt, (tt, (tt, (tt, (tt, (tt, (tt, (tt, tt))))))))))) (seq (Typed.give s3) (Relend.t-sl-relend U H A W E L.u64 C _ 6 8 2 3 y1 y2 l0 0 (λ x. x) (as-is r2)
+            (Reads.room-gone U H A y2) refl tt refl refl refl λ b o. tt) (seq (Typed.ask s4) (Relend.t-sl-aggregate U H A W E L.u64 C (Relend.asMut L.u64) _ 8 9 3 y2 y2 (λ x. x) (Scalar.oFld
+            6 (Y.field 1 ∷ []) (Y.tyInt Y.w64) 8 λ v. Shared.lenV (v .0)) (as-is r4) (Reads.room-gone U H A (L.sl y2)) (Relend.reads-owed-len U H A W L.u64 y1 2 3 l0 8 refl, refl) refl refl
+            λ b o k. tt) (seq (Typed.both s5) (Plain.t-call-plain U H A W C 3 ps·0 r·0 (cl .0) (cl .1) "datasample_select::choose" known E (λ pos β. β) _
             (record { pos = 1; st = []; d = 0; at = λ x. x }, (record { pos = 2; ty = y0; ref = λ x. x }, (record { pos = 3; ty = y3; ref = λ x. x }, (record { pos = 7; st = []; d = 0; at = λ x. x }, (record { pos = 5; st = []; d = 0; at = λ x. x }, (record { pos = 9; ty = y2; ref = λ x. x }, tt))))))
             0 (0 ∷ 1 ∷ 3 ∷ []) (Call.sub-id U H A W _)
             ((copied (Declared'.row Cache.the-type) refl (Copies.cStruct Cache.the-type Cache′.the-laws Cache′.the-copy .copy U H A W), refl), (ShrRef.spares-sref U H A W (Array.Array L.u64 928) y0 0, Reads.reads-sref U H A W (Array.Array L.u64 928) y0 0, refl, (ShrSlice.spares-sslice U H A W S.row y3 1, Shared.reads-sslice U H A W S.row y3 1, refl, ((copied (Declared.row Within.the-type) refl (Copies.cEnum Within.the-type Within′.the-laws Within′.the-copy .copy U H A W), refl), ((copied (Declared'.row ReadCondition.the-type) refl (Copies.cStruct ReadCondition.the-type ReadCondition′.the-laws ReadCondition′.the-copy .copy U H A W), refl), (as-is r5, Mut.reads-mslice U H A W L.u64 y2 3, refl, tt))))))

@@ -44,6 +44,12 @@ y0 = Y.tyRef Y.erased Y.mut I.named
 abbrev r0 : Row.Row
 r0 = Rows'.mleft I.row y0
 
+abbrev r1 : Row.Row
+r1 = Rows'.whole (Declared.row InstanceState.the-type)
+
+abbrev r2 : Row.Row
+r2 = Rows'.any-gone y0
+
 abbrev r3 : Row.Row
 r3 = Rows'.any-gone InstanceState′.mir
 
@@ -88,7 +94,13 @@ abbrev pub Claims : Type 1
 Claims = Kinds.In 1 ps·0 × Kinds.Out 1 ps·0 r·0
 
 abbrev t0 : List.List Row.Entry
-t0 = (0, r5) ∷ (1, I.here) ∷ (2, (Rows'.whole (Declared.row InstanceState.the-type))) ∷ (3, r5) ∷ (4, L.gunit) ∷ (5, (Rows'.any-gone y0)) ∷ []
+t0 = (0, r5) ∷ (1, I.here) ∷ (2, r1) ∷ (3, r5) ∷ (4, L.gunit) ∷ (5, r2) ∷ []
+
+abbrev t5 : List.List Row.Entry
+t5 = (0, r5) ∷ (1, r5) ∷ (2, r1) ∷ (3, r4) ∷ (4, L.hunit) ∷ (5, r0) ∷ []
+
+abbrev t9 : List.List Row.Entry
+t9 = (0, I.here) ∷ (1, r5) ∷ (2, r3) ∷ (3, I.here) ∷ (4, L.gunit) ∷ (5, r2) ∷ []
 
 abbrev on : Nat.ℕ → Row.Row → Row.Cx → Row.Cx
 on n r Γ = record { locals = Row.setRow n (n, r) (Γ .locals); slots = Γ .slots }
@@ -109,10 +121,10 @@ abbrev T3 : Row.Cx
 T3 = on 1 r5 T2
 
 abbrev T5 : Row.Cx
-T5 = on 5 (Rows'.mref I.row y0 0) (on 3 r4 T3)
+T5 = on 5 (Rows'.mref I.row y0 0) (on 3 r4 (on 1 r5 T0))
 
 abbrev T6 : Row.Cx
-T6 = on 5 r0 (on 4 L.hunit T5)
+T6 = record { locals = t5; slots = [] }
 
 abbrev T7 : Row.Cx
 T7 = on 2 r3 T6
@@ -124,7 +136,7 @@ abbrev T10 : Row.Cx
 T10 = on 2 r3 T3
 
 abbrev T12 : Row.Cx
-T12 = on 3 I.here T1
+T12 = record { locals = t9; slots = [] }
 
 abbrev O0 : Typed.Outs
 O0 = record { next = Option.none; exits = []; returns = Option.some T1 }
@@ -191,29 +203,30 @@ module _ (cl : Claims) where
             (Rows'.whole R) R (λ x. x) (λ x. x)
         copied R one c = Yields.yields-copy U H A W (λ ρ. Unit) R one c (Rows'.whole R) (λ x. x) (λ x. x) (λ ρ told. Local.mem-whole U H A W R ρ) λ ρ told. Local.whole-mem U H A W R ρ
 
-        pre : {Γ Γ₁ : Row.Cx} {b : Y.Body} {Δ : Typed.Outs} {φ : Typed.Tf Γ Γ₁} {Φ : Typed.TF Γ₁ Δ} → Typed.Ghost U H A E Γ Γ₁ φ → Typed.Typed U H A C E Γ₁ b Δ Φ → Typed.Typed U H A C E Γ b
+        pre : {Γ Γ₁ : Row.Cx} {b : Y.Body} {Δ : Typed.Outs} {Φ : Typed.TF Γ₁ Δ} (φ : Typed.Tf Γ Γ₁) → Typed.Ghost U H A E Γ Γ₁ φ → Typed.Typed U H A C E Γ₁ b Δ Φ → Typed.Typed U H A C E Γ b
             Δ (λ Ψ. φ (Φ Ψ))
-        pre = Typed.g-pre U H A W C E _ _ _ _ _ _
+        pre φ = Typed.g-pre U H A W C E _ _ _ _ φ _
 
-        seq : {Γ Γ₁ : Row.Cx} {a b : Y.Body} {Δ : Typed.Outs} {φ : Typed.Tf Γ Γ₁} {Φ : Typed.TF Γ₁ Δ} → Typed.Stmt U H A C E Γ a Γ₁ φ → Typed.Typed U H A C E Γ₁ b Δ Φ → Typed.Typed U H A C E
+        seq : {Γ Γ₁ : Row.Cx} {a b : Y.Body} {Δ : Typed.Outs} {Φ : Typed.TF Γ₁ Δ} (φ : Typed.Tf Γ Γ₁) → Typed.Stmt U H A C E Γ a Γ₁ φ → Typed.Typed U H A C E Γ₁ b Δ Φ → Typed.Typed U H A C E
             Γ (Y.seq a b) Δ (λ Ψ. φ (Φ Ψ))
-        seq = Typed.s-seq U H A W C E _ _ _ _ _ _ _
+        seq φ = Typed.s-seq U H A W C E _ _ _ _ _ φ _
 
         d7 : Typed.Typed U H A C E (lives (Row.alive ∷ []) T6) b5 Δ0 at7
-        d7 = pre (Scalar.g-room U H A W E _ 2 InstanceState′.mir (Local.room-whole U H A W (Declared.row InstanceState.the-type) InstanceState′.mir refl)) (pre (Scalar.g-room U H A W E _ 4
-            Y.tyUnit (Scalar.room-sc U H A W Row.sUnit)) (pre (Lifetime.g-end U H A W E _ 0 refl) (pre (Local.g-back-sc U H A W E _ 5 3 0 I.row y0 I.here (λ x. x) (λ x. x) (λ x. x)
-            (Reads.as-is U H A r0) (Reads.as-is U H A r4) (I.of-mem U H A W) refl) (pre (Lifetime.g-forget U H A W E _ 0 Row.dead refl) (seq (LocalCopy.t-val-copy U H A W E C (λ ρ. Unit) _ 3
-            0 I.row I.ty I.ty I.here I.here (λ x. x) (λ x. x) (λ x. x) refl (Own.told-none U H A ((lives (Row.off ∷ []) T10) .slots)) (Yields.yields-copy U H A W (λ ρ. Unit) I.row refl
-            (I.copies .copy U H A W) I.here (λ x. x) (λ x. x) (λ ρ told. I.in-mem U H A W ρ) λ ρ told. I.of-mem U H A W ρ) (Reads.room-gone U H A I.ty) (Yields.makes-mem U H A W (λ ρ. Unit)
-            I.row refl I.here (λ x. x) λ ρ told. I.of-mem U H A W ρ) refl refl) (pre (Scalar.g-room U H A W E _ 3 I.ty (I.room U H A W)) (Typed.t-return U H A W C E Δ0 tt)))))))
+        d7 = pre (Typed.pass T6 T7 s5) (Scalar.g-room U H A W E _ 2 InstanceState′.mir (Local.room-whole U H A W (Declared.row InstanceState.the-type) InstanceState′.mir refl)) (pre
+            (Typed.pass T7 T8 s6) (Scalar.g-room U H A W E _ 4 Y.tyUnit (Scalar.room-sc U H A W Row.sUnit)) (pre (λ Ψ. Ψ) (Lifetime.g-end U H A W E _ 0 refl) (pre (Typed.ask s8)
+            (Local.g-back-sc U H A W E _ 5 3 0 I.row y0 I.here (λ x. x) (λ x. x) (λ x. x) (Reads.as-is U H A r0) (Reads.as-is U H A r4) (I.of-mem U H A W) refl) (pre (λ Ψ. Ψ)
+            (Lifetime.g-forget U H A W E _ 0 Row.dead refl) (seq (Typed.pass T10 T12 s10) (LocalCopy.t-val-copy U H A W E C (λ ρ. Unit) _ 3 0 I.row I.ty I.ty I.here I.here (λ x. x) (λ x. x)
+            (λ x. x) refl (Own.told-none U H A ((lives (Row.off ∷ []) T10) .slots)) (Yields.yields-copy U H A W (λ ρ. Unit) I.row refl (I.copies .copy U H A W) I.here (λ x. x) (λ x. x) (λ ρ
+            told. I.in-mem U H A W ρ) λ ρ told. I.of-mem U H A W ρ) (Reads.room-gone U H A I.ty) (Yields.makes-mem U H A W (λ ρ. Unit) I.row refl I.here (λ x. x) λ ρ told. I.of-mem U H A W
+            ρ) refl refl) (pre (Typed.pass T12 T1 s11) (Scalar.g-room U H A W E _ 3 I.ty (I.room U H A W)) (Typed.t-return U H A W C E Δ0 tt)))))))
 
         d12 : Typed.Typed U H A C E G0 b8 Δ0 at12
-        d12 = seq (LocalCopy.t-val-copy U H A W E C (λ ρ. Unit) _ 1 3 I.row I.ty I.ty I.here I.here (λ x. x) (λ x. x) (λ x. x) refl (Own.told-none U H A (G0 .slots)) (Yields.yields-copy U H
-            A W (λ ρ. Unit) I.row refl (I.copies .copy U H A W) I.here (λ x. x) (λ x. x) (λ ρ told. I.in-mem U H A W ρ) λ ρ told. I.of-mem U H A W ρ) (Reads.room-gone U H A I.ty)
-            (Yields.makes-mem U H A W (λ ρ. Unit) I.row refl I.here (λ x. x) λ ρ told. I.of-mem U H A W ρ) refl refl) (pre (Scalar.g-room U H A W E _ 1 I.ty (I.room U H A W)) (pre
-            (Lifetime.g-begin U H A W E _ 0 (tt, (tt, (tt, (tt, (tt, (tt, tt))))))) (seq (Local.t-sc-borrow U H A W E C _ 3 5 0 I.row y0 (λ x. x) (I.in-mem U H A W) (Reads.room-gone U H A
-            y0) refl λ b o. tt) (seq (Plain.t-call-plain U H A W C 1 ps·0 r·0 (cl .0) (cl .1) "sampleinfo::update" known E (λ pos β. β) _
-            (record { pos = 5; ty = y0; ref = λ x. x }, (record { pos = 2; st = []; d = 0; at = λ x. x }, tt)) 4 (0 ∷ []) (Call.sub-id U H A W _)
+        d12 = seq (Typed.pass T0 T2 s0) (LocalCopy.t-val-copy U H A W E C (λ ρ. Unit) _ 1 3 I.row I.ty I.ty I.here I.here (λ x. x) (λ x. x) (λ x. x) refl (Own.told-none U H A (G0 .slots))
+            (Yields.yields-copy U H A W (λ ρ. Unit) I.row refl (I.copies .copy U H A W) I.here (λ x. x) (λ x. x) (λ ρ told. I.in-mem U H A W ρ) λ ρ told. I.of-mem U H A W ρ) (Reads.room-gone
+            U H A I.ty) (Yields.makes-mem U H A W (λ ρ. Unit) I.row refl I.here (λ x. x) λ ρ told. I.of-mem U H A W ρ) refl refl) (pre (Typed.pass T2 T3 s1) (Scalar.g-room U H A W E _ 1 I.ty
+            (I.room U H A W)) (pre (λ Ψ. Ψ) (Lifetime.g-begin U H A W E _ 0 (tt, (tt, (tt, (tt, (tt, (tt, tt))))))) (seq (Typed.give s3) (Local.t-sc-borrow U H A W E C _ 3 5 0 I.row y0 (λ x.
+            x) (I.in-mem U H A W) (Reads.room-gone U H A y0) refl λ b o. tt) (seq (Typed.both s4) (Plain.t-call-plain U H A W C 1 ps·0 r·0 (cl .0) (cl .1) "sampleinfo::update" known E (λ pos
+            β. β) _ (record { pos = 5; ty = y0; ref = λ x. x }, (record { pos = 2; st = []; d = 0; at = λ x. x }, tt)) 4 (0 ∷ []) (Call.sub-id U H A W _)
             (Reads.as-is U H A (Rows'.mref I.row y0 0), Reads.reads-mref U H A W I.row y0 0, refl, ((copied (Declared.row InstanceState.the-type) refl (Copies.cEnum InstanceState.the-type InstanceState′.the-laws InstanceState′.the-copy .copy U H A W), refl), tt))
             (Reads.room-gone U H A Y.tyUnit) (tt, tt) refl) d7))))
 

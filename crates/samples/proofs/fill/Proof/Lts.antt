@@ -57,6 +57,9 @@ r4 = Mut.mslice S.row y1 1
 abbrev r5 : Row.Row
 r5 = Mut.msleft S.row y1
 
+abbrev r6 : Row.Row
+r6 = Rows.any-gone y1
+
 abbrev pub ps : List.List (Kinds.PK 1)
 ps = MutSlice.pMutS S.row 0 tt ∷ []
 
@@ -117,7 +120,10 @@ abbrev pub Claims : Type 1
 Claims = Kinds.In 1 ps·0 × Kinds.Out 1 ps·0 r·0
 
 abbrev t0 : List.List Row.Entry
-t0 = (0, L.gunit) ∷ (1, r1) ∷ (2, L.g64) ∷ (3, L.g64) ∷ (4, L.gbool) ∷ (5, L.gunit) ∷ (6, (Rows.any-gone y1)) ∷ (7, (Rows.any-gone (L.sl y1))) ∷ []
+t0 = (0, L.gunit) ∷ (1, r1) ∷ (2, L.g64) ∷ (3, L.g64) ∷ (4, L.gbool) ∷ (5, L.gunit) ∷ (6, r6) ∷ (7, (Rows.any-gone (L.sl y1))) ∷ []
+
+abbrev t8 : List.List Row.Entry
+t8 = (0, L.gunit) ∷ (1, r0) ∷ (2, L.h64) ∷ (3, L.g64) ∷ (4, L.gbool) ∷ (5, L.hunit) ∷ (6, r6) ∷ (7, r5) ∷ []
 
 abbrev on : Nat.ℕ → Row.Row → Row.Cx → Row.Cx
 on n r Γ = record { locals = Row.setRow n (n, r) (Γ .locals); slots = Γ .slots }
@@ -141,7 +147,7 @@ abbrev T5 : Row.Cx
 T5 = on 4 L.hbool T4
 
 abbrev T7 : Row.Cx
-T7 = on 3 L.g64 T5
+T7 = on 4 L.hbool T2
 
 abbrev T11 : Row.Cx
 T11 = on 6 r3 (on 1 r0 T2)
@@ -150,10 +156,10 @@ abbrev T12 : Row.Cx
 T12 = on 7 r4 (on 1 r0 T2)
 
 abbrev T13 : Row.Cx
-T13 = on 7 r5 (on 5 L.hunit T12)
+T13 = record { locals = t8; slots = [] }
 
 abbrev T14 : Row.Cx
-T14 = on 7 r5 T12
+T14 = on 5 L.gunit T13
 
 abbrev T19 : Row.Cx
 T19 = on 2 L.h64 T1
@@ -300,48 +306,48 @@ module _ (cl : Claims) where
           abbrev E : Wp.Env U H
           E = Frame.EnvOf U H (Kinds.tyR r ∷ (Enter.tysP ps xs)) bs
 
-          pre : {Γ Γ₁ : Row.Cx} {b : Y.Body} {Δ : Typed.Outs} {φ : Typed.Tf Γ Γ₁} {Φ : Typed.TF Γ₁ Δ} → Typed.Ghost U H A E Γ Γ₁ φ → Typed.Typed U H A C E Γ₁ b Δ Φ → Typed.Typed U H A C E Γ
+          pre : {Γ Γ₁ : Row.Cx} {b : Y.Body} {Δ : Typed.Outs} {Φ : Typed.TF Γ₁ Δ} (φ : Typed.Tf Γ Γ₁) → Typed.Ghost U H A E Γ Γ₁ φ → Typed.Typed U H A C E Γ₁ b Δ Φ → Typed.Typed U H A C E Γ
               b Δ (λ Ψ. φ (Φ Ψ))
-          pre = Typed.g-pre U H A W C E _ _ _ _ _ _
+          pre φ = Typed.g-pre U H A W C E _ _ _ _ φ _
 
-          seq : {Γ Γ₁ : Row.Cx} {a b : Y.Body} {Δ : Typed.Outs} {φ : Typed.Tf Γ Γ₁} {Φ : Typed.TF Γ₁ Δ} → Typed.Stmt U H A C E Γ a Γ₁ φ → Typed.Typed U H A C E Γ₁ b Δ Φ → Typed.Typed U H A C
+          seq : {Γ Γ₁ : Row.Cx} {a b : Y.Body} {Δ : Typed.Outs} {Φ : Typed.TF Γ₁ Δ} (φ : Typed.Tf Γ Γ₁) → Typed.Stmt U H A C E Γ a Γ₁ φ → Typed.Typed U H A C E Γ₁ b Δ Φ → Typed.Typed U H A C
               E Γ (Y.seq a b) Δ (λ Ψ. φ (Φ Ψ))
-          seq = Typed.s-seq U H A W C E _ _ _ _ _ _ _
+          seq φ = Typed.s-seq U H A W C E _ _ _ _ _ φ _
 
           gone : (τ : Y.Ty) → Reads.ToRoom U H A (Rows.any-gone τ) τ
           gone = Reads.room-gone U H A
 
           d1 : Typed.Typed U H A C E G7 b3 Δ4 at1
-          d1 = pre (Scalar.g-room U H A W E _ 4 Y.tyBool (Scalar.room-sc U H A W Row.sBool)) (Typed.t-skip U H A W C E Δ4 tt)
+          d1 = pre (Typed.pass T7 T2 s4) (Scalar.g-room U H A W E _ 4 Y.tyBool (Scalar.room-sc U H A W Row.sBool)) (Typed.t-skip U H A W C E Δ4 tt)
 
           d3 : Typed.Typed U H A C E G7 b4 Δ4 at3
-          d3 = pre (Scalar.g-room U H A W E _ 4 Y.tyBool (Scalar.room-sc U H A W Row.sBool)) (Typed.t-exit U H A W C E 1 Δ4 tt)
+          d3 = pre (Typed.pass T7 T2 s4) (Scalar.g-room U H A W E _ 4 Y.tyBool (Scalar.room-sc U H A W Row.sBool)) (Typed.t-exit U H A W C E 1 Δ4 tt)
 
           d5 : Typed.Typed U H A C E (lives z0 T5) b5 Δ4 at5
-          d5 = pre (Scalar.g-room U H A W E _ 3 (Y.tyInt Y.w64) (Scalar.room-sc U H A W (Row.sInt Y.w64))) (Scalar.t-cond U H A W E C _ 4 (λ x. x) b3 b4 Δ4 at1 at3 (Scalar.reads-sc U H A W
-              Row.sBool) refl d1 d3)
+          d5 = pre (Typed.pass T5 T7 s3) (Scalar.g-room U H A W E _ 3 (Y.tyInt Y.w64) (Scalar.room-sc U H A W (Row.sInt Y.w64))) (Scalar.t-cond U H A W E C _ 4 (λ x. x) b3 b4 Δ4 at1 at3
+              (Scalar.reads-sc U H A W Row.sBool) refl d1 d3)
 
           d10 : Typed.Typed U H A C E (lives (Row.off ∷ Row.alive ∷ []) (on 1 (Relend.mslice-owed S.row y0 0 1 l0) T13)) b9 Δ3 at10
-          d10 = pre (Scalar.g-room U H A W E _ 5 Y.tyUnit (Scalar.room-sc U H A W Row.sUnit)) (pre (Lifetime.g-end U H A W E _ 1 refl) (pre (Relend.g-back-sl U H A W E S.row _ 7 1 0 1 y0 y1
-              l0 (λ x. x) (λ x. x) (Reads.as-is U H A r5) (Reads.as-is U H A (Relend.mslice-owed S.row y0 0 1 l0)) refl refl) (pre (Lifetime.g-forget U H A W E _ 1 Row.dead refl)
-              (Typed.s-typed U H A W C E _ b9 Δ3 (Typed.ask s14) tt (Scalar.t-op2 U H A W E C _ (Y.add Y.unsigned) (Scalar.oAt 2 (Y.tyInt Y.w64) (Row.valS (Row.sInt Y.w64))) (Scalar.oInt
-              Y.w64 1) 2 L.h64 (Y.tyInt Y.w64) (Row.valS (Row.sInt Y.w64)) (Row.sInt Y.w64 .of) (Scalar.reads-sc U H A W (Row.sInt Y.w64), refl) tt (Scalar.room-sc U H A W (Row.sInt Y.w64))
-              (Scalar.holds-sc U H A W (Row.sInt Y.w64)) refl (λ u. refl) λ u. tt)))))
+          d10 = pre (Typed.pass T13 T14 s10) (Scalar.g-room U H A W E _ 5 Y.tyUnit (Scalar.room-sc U H A W Row.sUnit)) (pre (λ Ψ. Ψ) (Lifetime.g-end U H A W E _ 1 refl) (pre (Typed.both s12)
+              (Relend.g-back-sl U H A W E S.row _ 7 1 0 1 y0 y1 l0 (λ x. x) (λ x. x) (Reads.as-is U H A r5) (Reads.as-is U H A (Relend.mslice-owed S.row y0 0 1 l0)) refl refl) (pre (λ Ψ. Ψ)
+              (Lifetime.g-forget U H A W E _ 1 Row.dead refl) (Typed.s-typed U H A W C E _ b9 Δ3 (Typed.ask s14) tt (Scalar.t-op2 U H A W E C _ (Y.add Y.unsigned) (Scalar.oAt 2 (Y.tyInt
+              Y.w64) (Row.valS (Row.sInt Y.w64))) (Scalar.oInt Y.w64 1) 2 L.h64 (Y.tyInt Y.w64) (Row.valS (Row.sInt Y.w64)) (Row.sInt Y.w64 .of)
+              (Scalar.reads-sc U H A W (Row.sInt Y.w64), refl) tt (Scalar.room-sc U H A W (Row.sInt Y.w64)) (Scalar.holds-sc U H A W (Row.sInt Y.w64)) refl (λ u. refl) λ u. tt)))))
 
           d14 : Typed.Typed U H A C E G2 b12 Δ3 at14
-          d14 = pre (Lifetime.g-begin U H A W E _ 1 (tt, (tt, (tt, (tt, (tt, (tt, (tt, (tt, tt))))))))) (seq (Relend.t-sl-relend U H A W E S.row C _ 1 6 0 1 y0 y1 l0 0 (λ x. x) (Reads.as-is
-              U H A r1) (gone y1) refl tt refl refl refl λ b o. tt) (seq (Relend.t-sl-aggregate U H A W E S.row C (Relend.asMut S.row) _ 6 7 1 y1 y1 (λ x. x) (Scalar.oFld 1 (Y.field 1 ∷ [])
-              (Y.tyInt Y.w64) 8 λ v. Shared.lenV (v .0)) (Reads.as-is U H A r3) (gone (L.sl y1)) (Relend.reads-owed-len U H A W S.row y0 0 1 l0 8 refl, refl) refl refl λ b o k. tt) (seq
-              (Plain.t-call-plain U H A W C 1 ps·0 r·0 (cl .0) (cl .1) "samples::clear" known E (λ pos β. β) _ (record { pos = 7; ty = y1; ref = λ x. x }, (Num.vAt 2 λ x. x, tt)) 5 (1 ∷ [])
-              (Call.sub-id U H A W _) (Reads.as-is U H A r4, Mut.reads-mslice U H A W S.row y1 1, refl, ((Scalar.reads-sc U H A W (Row.sInt Y.w64), refl), tt)) (gone Y.tyUnit) (tt, tt) refl)
-              d10)))
+          d14 = pre (λ Ψ. Ψ) (Lifetime.g-begin U H A W E _ 1 (tt, (tt, (tt, (tt, (tt, (tt, (tt, (tt, tt))))))))) (seq (Typed.give s7) (Relend.t-sl-relend U H A W E S.row C _ 1 6 0 1 y0 y1 l0
+              0 (λ x. x) (Reads.as-is U H A r1) (gone y1) refl tt refl refl refl λ b o. tt) (seq (Typed.ask s8) (Relend.t-sl-aggregate U H A W E S.row C (Relend.asMut S.row) _ 6 7 1 y1 y1 (λ
+              x. x) (Scalar.oFld 1 (Y.field 1 ∷ []) (Y.tyInt Y.w64) 8 λ v. Shared.lenV (v .0)) (Reads.as-is U H A r3) (gone (L.sl y1))
+              (Relend.reads-owed-len U H A W S.row y0 0 1 l0 8 refl, refl) refl refl λ b o k. tt) (seq (Typed.both s9) (Plain.t-call-plain U H A W C 1 ps·0 r·0 (cl .0) (cl .1)
+              "samples::clear" known E (λ pos β. β) _ (record { pos = 7; ty = y1; ref = λ x. x }, (Num.vAt 2 λ x. x, tt)) 5 (1 ∷ []) (Call.sub-id U H A W _)
+              (Reads.as-is U H A r4, Mut.reads-mslice U H A W S.row y1 1, refl, ((Scalar.reads-sc U H A W (Row.sInt Y.w64), refl), tt)) (gone Y.tyUnit) (tt, tt) refl) d10)))
 
           d17 : Typed.Typed U H A C E G2 b15 Δ3 at17
-          d17 = seq (Scalar.t-use U H A W E C _ (Scalar.oFld 1 (Y.field 1 ∷ []) (Y.tyInt Y.w64) 8 Shared.lenV) 3 L.h64 (Y.tyInt Y.w64) (Row.valS (Row.sInt Y.w64)) (Row.sInt Y.w64 .of)
-              (Mut.reads-mslice-len U H A W S.row y0 0 8 refl, refl) (gone (Y.tyInt Y.w64)) (Scalar.holds-sc U H A W (Row.sInt Y.w64)) refl (λ u. refl) λ u. tt) (seq (Scalar.t-op2 U H A W E
-              C _ (Y.lt Y.unsigned) (Scalar.oAt 2 (Y.tyInt Y.w64) (Row.valS (Row.sInt Y.w64))) (Scalar.oAt 3 (Y.tyInt Y.w64) (Row.valS (Row.sInt Y.w64))) 4 L.hbool Y.tyBool (Row.valS
-              Row.sBool) (Row.sBool .of) (Scalar.reads-sc U H A W (Row.sInt Y.w64), refl) (Scalar.reads-sc U H A W (Row.sInt Y.w64), refl) (gone Y.tyBool) (Scalar.holds-sc U H A W Row.sBool)
-              refl (λ u. refl) λ u. tt) (Typed.t-seq U H A W C E _ _ b5 b12 Δ3 at5 at14 d5 d14))
+          d17 = seq (Typed.pass T2 T4 s1) (Scalar.t-use U H A W E C _ (Scalar.oFld 1 (Y.field 1 ∷ []) (Y.tyInt Y.w64) 8 Shared.lenV) 3 L.h64 (Y.tyInt Y.w64) (Row.valS (Row.sInt Y.w64))
+              (Row.sInt Y.w64 .of) (Mut.reads-mslice-len U H A W S.row y0 0 8 refl, refl) (gone (Y.tyInt Y.w64)) (Scalar.holds-sc U H A W (Row.sInt Y.w64)) refl (λ u. refl) λ u. tt) (seq
+              (Typed.ask s2) (Scalar.t-op2 U H A W E C _ (Y.lt Y.unsigned) (Scalar.oAt 2 (Y.tyInt Y.w64) (Row.valS (Row.sInt Y.w64))) (Scalar.oAt 3 (Y.tyInt Y.w64) (Row.valS (Row.sInt
+              Y.w64))) 4 L.hbool Y.tyBool (Row.valS Row.sBool) (Row.sBool .of) (Scalar.reads-sc U H A W (Row.sInt Y.w64), refl) (Scalar.reads-sc U H A W (Row.sInt Y.w64), refl) (gone
+              Y.tyBool) (Scalar.holds-sc U H A W Row.sBool) refl (λ u. refl) λ u. tt) (Typed.t-seq U H A W C E _ _ b5 b12 Δ3 at5 at14 d5 d14))
 
           d18 : Typed.Typed U H A C E G2 b16 Δ2 at18
           d18 = Typed.t-loop-by U H A W C E _ b15 Δ2 put0 (λ u vs. Inv·0 (Row.get 1 (T2 .locals) u .now) (Row.get 2 (T2 .locals) u) (vs .0) (vs .1)) (λ u vs. μ·0 (Row.get 1 (T2 .locals) u
@@ -351,12 +357,13 @@ module _ (cl : Claims) where
           d19 = Typed.t-block U H A W C E _ b16 Δ1 at18 d18
 
           d22 : Typed.Typed U H A C E G2 b20 Δ0 at22
-          d22 = seq (Scalar.t-use U H A W E C _ Scalar.oUnit 0 L.hunit Y.tyUnit (Row.valS Row.sUnit) (Row.sUnit .of) tt (gone Y.tyUnit) (Scalar.holds-sc U H A W Row.sUnit) refl (λ u. refl) λ
-              u. tt) (pre (Scalar.g-room U H A W E _ 2 (Y.tyInt Y.w64) (Scalar.room-sc U H A W (Row.sInt Y.w64))) (Typed.t-return U H A W C E Δ0 tt))
+          d22 = seq (Typed.pass T2 T19 s15) (Scalar.t-use U H A W E C _ Scalar.oUnit 0 L.hunit Y.tyUnit (Row.valS Row.sUnit) (Row.sUnit .of) tt (gone Y.tyUnit) (Scalar.holds-sc U H A W
+              Row.sUnit) refl (λ u. refl) λ u. tt) (pre (Typed.pass T19 T1 s16) (Scalar.g-room U H A W E _ 2 (Y.tyInt Y.w64) (Scalar.room-sc U H A W (Row.sInt Y.w64))) (Typed.t-return U H A
+              W C E Δ0 tt))
 
           d24 : Typed.Typed U H A C E (lives z0 T0) b22 Δ0 at24
-          d24 = seq (Scalar.t-use U H A W E C _ (Scalar.oInt Y.w64 0) 2 L.h64 (Y.tyInt Y.w64) (Row.valS (Row.sInt Y.w64)) (Row.sInt Y.w64 .of) tt (gone (Y.tyInt Y.w64)) (Scalar.holds-sc U H
-              A W (Row.sInt Y.w64)) refl (λ u. refl) λ u. tt) (Typed.t-seq U H A W C E _ _ b17 b20 Δ0 at19 at22 d19 d22)
+          d24 = seq (Typed.pass T0 T2 s0) (Scalar.t-use U H A W E C _ (Scalar.oInt Y.w64 0) 2 L.h64 (Y.tyInt Y.w64) (Row.valS (Row.sInt Y.w64)) (Row.sInt Y.w64 .of) tt (gone (Y.tyInt Y.w64))
+              (Scalar.holds-sc U H A W (Row.sInt Y.w64)) refl (λ u. refl) λ u. tt) (Typed.t-seq U H A W C E _ _ b17 b20 Δ0 at19 at22 d19 d22)
 
           pub typed : Typed.Typed U H A C E (Function.Γin 1 ps r xs m κs qs) b22 (Function.Δret 1 ps r xs m κs qs) Φ
           typed = d24
@@ -398,9 +405,9 @@ module _ (cl : Claims) where
       abbrev pub Need-loop-holds : Type 0
       Need-loop-holds = (c : Start) → Inv·0 (Row.get 1 (T2 .locals) (m1 c) .now) (Row.get 2 (T2 .locals) (m1 c)) (Row.get 1 (T2 .locals) (m1 c) .now) (Row.get 2 (T2 .locals) (m1 c))
 
-      abbrev m2 : (before : Start) → (t : List.List (S.row .Denot)) → (i : L.h64 .Mod) → Typed.Mo T2
-      m2 before t i = Row.set 2 (2, L.h64) i (Row.setRow 1 (1, r1) (T2 .locals)) (Row.set 1 (1, r1) record
-          { ptr = Row.get 1 (T2 .locals) (m1 before) .ptr; name = Row.get 1 (T2 .locals) (m1 before) .name; now = t } (T2 .locals) (m1 before))
+      abbrev m2 : (c : Start) → (t : List.List (S.row .Denot)) → (i : L.h64 .Mod) → Typed.Mo T2
+      m2 c t i = Row.set 2 (2, L.h64) i (Row.setRow 1 (1, r1) (T2 .locals)) (Row.set 1 (1, r1) record
+          { ptr = Row.get 1 (T2 .locals) (m1 c) .ptr; name = Row.get 1 (T2 .locals) (m1 c) .name; now = t } (T2 .locals) (m1 c))
 
       abbrev W3 : (c : Start) → (t : List.List (S.row .Denot)) → (i : L.h64 .Mod) → Typed.Want O3
       W3 c t i = Typed.inLoop T2 O2 (Typed.Round T2 O2 put0 (λ u vs. Inv·0 (Row.get 1 (T2 .locals) u .now) (Row.get 2 (T2 .locals) u) (vs .0) (vs .1)) (λ u vs. μ·0 (Row.get 1 (T2 .locals) u

@@ -136,7 +136,7 @@ abbrev T9 : Row.Cx
 T9 = on 7 r4 (on 1 r0 T0)
 
 abbrev T10 : Row.Cx
-T10 = on 7 r5 (on 5 L.hunit T9)
+T10 = on 7 r5 (on 5 L.hunit (on 1 r0 T0))
 
 abbrev T11 : Row.Cx
 T11 = on 7 r5 T9
@@ -235,13 +235,13 @@ module _ (cl : Claims) where
         abbrev E : Wp.Env U H
         E = Frame.EnvOf U H (Kinds.tyR r ∷ (Enter.tysP ps xs)) bs
 
-        pre : {Γ Γ₁ : Row.Cx} {b : Y.Body} {Δ : Typed.Outs} {φ : Typed.Tf Γ Γ₁} {Φ : Typed.TF Γ₁ Δ} → Typed.Ghost U H A E Γ Γ₁ φ → Typed.Typed U H A C E Γ₁ b Δ Φ → Typed.Typed U H A C E Γ b
+        pre : {Γ Γ₁ : Row.Cx} {b : Y.Body} {Δ : Typed.Outs} {Φ : Typed.TF Γ₁ Δ} (φ : Typed.Tf Γ Γ₁) → Typed.Ghost U H A E Γ Γ₁ φ → Typed.Typed U H A C E Γ₁ b Δ Φ → Typed.Typed U H A C E Γ b
             Δ (λ Ψ. φ (Φ Ψ))
-        pre = Typed.g-pre U H A W C E _ _ _ _ _ _
+        pre φ = Typed.g-pre U H A W C E _ _ _ _ φ _
 
-        seq : {Γ Γ₁ : Row.Cx} {a b : Y.Body} {Δ : Typed.Outs} {φ : Typed.Tf Γ Γ₁} {Φ : Typed.TF Γ₁ Δ} → Typed.Stmt U H A C E Γ a Γ₁ φ → Typed.Typed U H A C E Γ₁ b Δ Φ → Typed.Typed U H A C E
+        seq : {Γ Γ₁ : Row.Cx} {a b : Y.Body} {Δ : Typed.Outs} {Φ : Typed.TF Γ₁ Δ} (φ : Typed.Tf Γ Γ₁) → Typed.Stmt U H A C E Γ a Γ₁ φ → Typed.Typed U H A C E Γ₁ b Δ Φ → Typed.Typed U H A C E
             Γ (Y.seq a b) Δ (λ Ψ. φ (Φ Ψ))
-        seq = Typed.s-seq U H A W C E _ _ _ _ _ _ _
+        seq φ = Typed.s-seq U H A W C E _ _ _ _ _ φ _
 
         post : {Γ Γ₁ Γ₂ : Row.Cx} {a : Y.Body} {φ : Typed.Tf Γ Γ₁} {φ′ : Typed.Tf Γ₁ Γ₂} → Typed.Stmt U H A C E Γ a Γ₁ φ → Typed.Ghost U H A E Γ₁ Γ₂ φ′ → Typed.Stmt U H A C E Γ a Γ₂ (λ Ψ. φ
             (φ′ Ψ))
@@ -251,33 +251,34 @@ module _ (cl : Claims) where
         gone = Reads.room-gone U H A
 
         d4 : Typed.Typed U H A C E G5 b6 Δ1 at4
-        d4 = pre (Scalar.g-room U H A W E _ 4 Y.tyBool (Scalar.room-sc U H A W Row.sBool)) (pre (Lifetime.g-begin U H A W E _ 1 (tt, (tt, (tt, (tt, (tt, (tt, (tt, (tt, tt))))))))) (seq
-            (Relend.t-sl-relend U H A W E S.row C _ 1 6 0 1 y0 y1 l0 0 (λ x. x) (Reads.as-is U H A r1) (gone y1) refl tt refl refl refl λ b o. tt) (seq (Relend.t-sl-aggregate U H A W E S.row
-            C (Relend.asMut S.row) _ 6 7 1 y1 y1 (λ x. x) (Scalar.oFld 1 (Y.field 1 ∷ []) (Y.tyInt Y.w64) 8 λ v. Shared.lenV (v .0)) (Reads.as-is U H A r3) (gone (L.sl y1))
-            (Relend.reads-owed-len U H A W S.row y0 0 1 l0 8 refl, refl) refl refl λ b o k. tt) (Typed.s-typed U H A W C E _ b4 Δ1 (λ Ψ. Typed.both s7 (Typed.pass T10 T11 s8 (Typed.both s10
-            Ψ))) tt (post (post (post (post (Plain.t-call-plain U H A W C 1 ps·0 r·0 (cl .0) (cl .1) "samples::clear" known E (λ pos β. β) _
-            (record { pos = 7; ty = y1; ref = λ x. x }, (Num.vAt 2 λ x. x, tt)) 5 (1 ∷ []) (Call.sub-id U H A W _)
+        d4 = pre (Typed.pass T5 T0 s3) (Scalar.g-room U H A W E _ 4 Y.tyBool (Scalar.room-sc U H A W Row.sBool)) (pre (λ Ψ. Ψ) (Lifetime.g-begin U H A W E _ 1
+            (tt, (tt, (tt, (tt, (tt, (tt, (tt, (tt, tt))))))))) (seq (Typed.give s5) (Relend.t-sl-relend U H A W E S.row C _ 1 6 0 1 y0 y1 l0 0 (λ x. x) (Reads.as-is U H A r1) (gone y1) refl
+            tt refl refl refl λ b o. tt) (seq (Typed.ask s6) (Relend.t-sl-aggregate U H A W E S.row C (Relend.asMut S.row) _ 6 7 1 y1 y1 (λ x. x) (Scalar.oFld 1 (Y.field 1 ∷ []) (Y.tyInt
+            Y.w64) 8 λ v. Shared.lenV (v .0)) (Reads.as-is U H A r3) (gone (L.sl y1)) (Relend.reads-owed-len U H A W S.row y0 0 1 l0 8 refl, refl) refl refl λ b o k. tt) (Typed.s-typed U H A
+            W C E _ b4 Δ1 (λ Ψ. Typed.both s7 (Typed.pass T10 T11 s8 (Typed.both s10 Ψ))) tt (post (post (post (post (Plain.t-call-plain U H A W C 1 ps·0 r·0 (cl .0) (cl .1) "samples::clear"
+            known E (λ pos β. β) _ (record { pos = 7; ty = y1; ref = λ x. x }, (Num.vAt 2 λ x. x, tt)) 5 (1 ∷ []) (Call.sub-id U H A W _)
             (Reads.as-is U H A r4, Mut.reads-mslice U H A W S.row y1 1, refl, ((Scalar.reads-sc U H A W (Row.sInt Y.w64), refl), tt)) (gone Y.tyUnit) (tt, tt) refl) (Scalar.g-room U H A W E
             _ 5 Y.tyUnit (Scalar.room-sc U H A W Row.sUnit))) (Lifetime.g-end U H A W E _ 1 refl)) (Relend.g-back-sl U H A W E S.row _ 7 1 0 1 y0 y1 l0 (λ x. x) (λ x. x) (Reads.as-is U H A
             r5) (Reads.as-is U H A (Relend.mslice-owed S.row y0 0 1 l0)) refl refl)) (Lifetime.g-forget U H A W E _ 1 Row.dead refl))))))
 
         d6 : Typed.Typed U H A C E G5 b7 Δ1 at6
-        d6 = pre (Scalar.g-room U H A W E _ 4 Y.tyBool (Scalar.room-sc U H A W Row.sBool)) (Typed.t-skip U H A W C E Δ1 tt)
+        d6 = pre (Typed.pass T5 T0 s3) (Scalar.g-room U H A W E _ 4 Y.tyBool (Scalar.room-sc U H A W Row.sBool)) (Typed.t-skip U H A W C E Δ1 tt)
 
         d8 : Typed.Typed U H A C E (lives z0 T3) b8 Δ1 at8
-        d8 = pre (Scalar.g-room U H A W E _ 3 (Y.tyInt Y.w64) (Scalar.room-sc U H A W (Row.sInt Y.w64))) (Scalar.t-cond U H A W E C _ 4 (λ x. x) b6 b7 Δ1 at4 at6 (Scalar.reads-sc U H A W
-            Row.sBool) refl d4 d6)
+        d8 = pre (Typed.pass T3 T5 s2) (Scalar.g-room U H A W E _ 3 (Y.tyInt Y.w64) (Scalar.room-sc U H A W (Row.sInt Y.w64))) (Scalar.t-cond U H A W E C _ 4 (λ x. x) b6 b7 Δ1 at4 at6
+            (Scalar.reads-sc U H A W Row.sBool) refl d4 d6)
 
         d11 : Typed.Typed U H A C E G0 b11 Δ0 at11
-        d11 = seq (Scalar.t-use U H A W E C _ Scalar.oUnit 0 L.hunit Y.tyUnit (Row.valS Row.sUnit) (Row.sUnit .of) tt (gone Y.tyUnit) (Scalar.holds-sc U H A W Row.sUnit) refl (λ u. refl) λ
-            u. tt) (pre (Scalar.g-room U H A W E _ 2 (Y.tyInt Y.w64) (Scalar.room-sc U H A W (Row.sInt Y.w64))) (Typed.t-return U H A W C E Δ0 tt))
+        d11 = seq (Typed.pass T0 T16 s13) (Scalar.t-use U H A W E C _ Scalar.oUnit 0 L.hunit Y.tyUnit (Row.valS Row.sUnit) (Row.sUnit .of) tt (gone Y.tyUnit) (Scalar.holds-sc U H A W
+            Row.sUnit) refl (λ u. refl) λ u. tt) (pre (Typed.pass T16 T1 s14) (Scalar.g-room U H A W E _ 2 (Y.tyInt Y.w64) (Scalar.room-sc U H A W (Row.sInt Y.w64))) (Typed.t-return U H A W
+            C E Δ0 tt))
 
         d14 : Typed.Typed U H A C E G0 b14 Δ0 at14
-        d14 = seq (Scalar.t-use U H A W E C _ (Scalar.oFld 1 (Y.field 1 ∷ []) (Y.tyInt Y.w64) 8 Shared.lenV) 3 L.h64 (Y.tyInt Y.w64) (Row.valS (Row.sInt Y.w64)) (Row.sInt Y.w64 .of)
-            (Mut.reads-mslice-len U H A W S.row y0 0 8 refl, refl) (gone (Y.tyInt Y.w64)) (Scalar.holds-sc U H A W (Row.sInt Y.w64)) refl (λ u. refl) λ u. tt) (seq (Scalar.t-op2 U H A W E C
-            _ (Y.lt Y.unsigned) (Scalar.oAt 2 (Y.tyInt Y.w64) (Row.valS (Row.sInt Y.w64))) (Scalar.oAt 3 (Y.tyInt Y.w64) (Row.valS (Row.sInt Y.w64))) 4 L.hbool Y.tyBool (Row.valS Row.sBool)
-            (Row.sBool .of) (Scalar.reads-sc U H A W (Row.sInt Y.w64), refl) (Scalar.reads-sc U H A W (Row.sInt Y.w64), refl) (gone Y.tyBool) (Scalar.holds-sc U H A W Row.sBool) refl (λ u.
-            refl) λ u. tt) (Typed.t-seq U H A W C E _ _ b8 b11 Δ0 at8 at11 d8 d11))
+        d14 = seq (Typed.pass T0 T2 s0) (Scalar.t-use U H A W E C _ (Scalar.oFld 1 (Y.field 1 ∷ []) (Y.tyInt Y.w64) 8 Shared.lenV) 3 L.h64 (Y.tyInt Y.w64) (Row.valS (Row.sInt Y.w64))
+            (Row.sInt Y.w64 .of) (Mut.reads-mslice-len U H A W S.row y0 0 8 refl, refl) (gone (Y.tyInt Y.w64)) (Scalar.holds-sc U H A W (Row.sInt Y.w64)) refl (λ u. refl) λ u. tt) (seq
+            (Typed.ask s1) (Scalar.t-op2 U H A W E C _ (Y.lt Y.unsigned) (Scalar.oAt 2 (Y.tyInt Y.w64) (Row.valS (Row.sInt Y.w64))) (Scalar.oAt 3 (Y.tyInt Y.w64) (Row.valS (Row.sInt Y.w64)))
+            4 L.hbool Y.tyBool (Row.valS Row.sBool) (Row.sBool .of) (Scalar.reads-sc U H A W (Row.sInt Y.w64), refl) (Scalar.reads-sc U H A W (Row.sInt Y.w64), refl) (gone Y.tyBool)
+            (Scalar.holds-sc U H A W Row.sBool) refl (λ u. refl) λ u. tt) (Typed.t-seq U H A W C E _ _ b8 b11 Δ0 at8 at11 d8 d11))
 
         pub typed : Typed.Typed U H A C E (Function.Γin 1 ps r xs m κs qs) b14 (Function.Δret 1 ps r xs m κs qs) Φ
         typed = d14

@@ -48,6 +48,9 @@ y1 = Y.tyRef Y.erased Y.mut y3
 abbrev y0 : Y.Ty
 y0 = Y.tyRef (Y.named 1) Y.mut y3
 
+abbrev r0 : Row.Row
+r0 = Rows'.mref-owed (Array'.Array L.u64 768) y0 1 2 Row.off
+
 abbrev r1 : Row.Row
 r1 = Rows'.mref (Array'.Array L.u64 768) y0 1
 
@@ -56,6 +59,9 @@ r2 = Rows'.mref (Array'.Array L.u64 768) y1 2
 
 abbrev r3 : Row.Row
 r3 = Rows'.mleft (Array'.Array L.u64 768) y1
+
+abbrev r5 : Row.Row
+r5 = Rows'.sslice S.row y2 0
 
 abbrev r6 : Row.Row
 r6 = Rows'.any-gone S.ty
@@ -128,7 +134,10 @@ abbrev pub Claims : Type 1
 Claims = Kinds.In 1 ps·0 × Kinds.Out 1 ps·0 r·0 × Kinds.In 1 ps·1 × Kinds.Out 1 ps·1 r·1
 
 abbrev t0 : List.List Row.Entry
-t0 = (0, L.gunit) ∷ (1, (Rows'.sslice S.row y2 0)) ∷ (2, r1) ∷ (3, L.g64) ∷ (4, r6) ∷ (5, L.gbool) ∷ (6, L.gunit) ∷ (7, (Rows'.any-gone y1)) ∷ []
+t0 = (0, L.gunit) ∷ (1, r5) ∷ (2, r1) ∷ (3, L.g64) ∷ (4, r6) ∷ (5, L.gbool) ∷ (6, L.gunit) ∷ (7, (Rows'.any-gone y1)) ∷ []
+
+abbrev t5 : List.List Row.Entry
+t5 = (0, L.gunit) ∷ (1, r5) ∷ (2, r0) ∷ (3, L.h64) ∷ (4, S.here) ∷ (5, L.gbool) ∷ (6, L.gunit) ∷ (7, r2) ∷ []
 
 abbrev on : Nat.ℕ → Row.Row → Row.Cx → Row.Cx
 on n r Γ = record { locals = Row.setRow n (n, r) (Γ .locals); slots = Γ .slots }
@@ -152,7 +161,7 @@ abbrev T8 : Row.Cx
 T8 = on 4 S.here T2
 
 abbrev T10 : Row.Cx
-T10 = on 7 r2 (on 2 (Rows'.mref-owed (Array'.Array L.u64 768) y0 1 2 Row.off) T8)
+T10 = record { locals = t5; slots = [] }
 
 abbrev T11 : Row.Cx
 T11 = on 7 r3 (on 6 L.hunit T10)
@@ -161,7 +170,7 @@ abbrev T12 : Row.Cx
 T12 = on 4 r6 T11
 
 abbrev T13 : Row.Cx
-T13 = on 6 L.gunit T12
+T13 = on 7 r3 (on 2 r0 T2)
 
 abbrev T18 : Row.Cx
 T18 = on 3 L.h64 T1
@@ -309,49 +318,51 @@ module _ (cl : Claims) where
           abbrev E : Wp.Env U H
           E = Frame.EnvOf U H (Kinds.tyR r ∷ (Enter.tysP ps xs)) bs
 
-          pre : {Γ Γ₁ : Row.Cx} {b : Y.Body} {Δ : Typed.Outs} {φ : Typed.Tf Γ Γ₁} {Φ : Typed.TF Γ₁ Δ} → Typed.Ghost U H A E Γ Γ₁ φ → Typed.Typed U H A C E Γ₁ b Δ Φ → Typed.Typed U H A C E Γ
+          pre : {Γ Γ₁ : Row.Cx} {b : Y.Body} {Δ : Typed.Outs} {Φ : Typed.TF Γ₁ Δ} (φ : Typed.Tf Γ Γ₁) → Typed.Ghost U H A E Γ Γ₁ φ → Typed.Typed U H A C E Γ₁ b Δ Φ → Typed.Typed U H A C E Γ
               b Δ (λ Ψ. φ (Φ Ψ))
-          pre = Typed.g-pre U H A W C E _ _ _ _ _ _
+          pre φ = Typed.g-pre U H A W C E _ _ _ _ φ _
 
-          seq : {Γ Γ₁ : Row.Cx} {a b : Y.Body} {Δ : Typed.Outs} {φ : Typed.Tf Γ Γ₁} {Φ : Typed.TF Γ₁ Δ} → Typed.Stmt U H A C E Γ a Γ₁ φ → Typed.Typed U H A C E Γ₁ b Δ Φ → Typed.Typed U H A C
+          seq : {Γ Γ₁ : Row.Cx} {a b : Y.Body} {Δ : Typed.Outs} {Φ : Typed.TF Γ₁ Δ} (φ : Typed.Tf Γ Γ₁) → Typed.Stmt U H A C E Γ a Γ₁ φ → Typed.Typed U H A C E Γ₁ b Δ Φ → Typed.Typed U H A C
               E Γ (Y.seq a b) Δ (λ Ψ. φ (Φ Ψ))
-          seq = Typed.s-seq U H A W C E _ _ _ _ _ _ _
+          seq φ = Typed.s-seq U H A W C E _ _ _ _ _ φ _
 
           gone : (τ : Y.Ty) → Reads.ToRoom U H A (Rows'.any-gone τ) τ
           gone = Reads.room-gone U H A
 
           d1 : Typed.Typed U H A C E G4 b2 Δ4 at1
-          d1 = pre (Scalar.g-room U H A W E _ 5 Y.tyBool (Scalar.room-sc U H A W Row.sBool)) (Typed.t-skip U H A W C E Δ4 tt)
+          d1 = pre (Typed.pass T4 T2 s2) (Scalar.g-room U H A W E _ 5 Y.tyBool (Scalar.room-sc U H A W Row.sBool)) (Typed.t-skip U H A W C E Δ4 tt)
 
           d3 : Typed.Typed U H A C E G4 b3 Δ4 at3
-          d3 = pre (Scalar.g-room U H A W E _ 5 Y.tyBool (Scalar.room-sc U H A W Row.sBool)) (Typed.t-exit U H A W C E 1 Δ4 tt)
+          d3 = pre (Typed.pass T4 T2 s2) (Scalar.g-room U H A W E _ 5 Y.tyBool (Scalar.room-sc U H A W Row.sBool)) (Typed.t-exit U H A W C E 1 Δ4 tt)
 
           d4 : Typed.Typed U H A C E G4 b4 Δ4 at4
           d4 = Scalar.t-cond U H A W E C _ 5 (λ x. x) b2 b3 Δ4 at1 at3 (Scalar.reads-sc U H A W Row.sBool) refl d1 d3
 
           d10 : Typed.Typed U H A C E (lives (Row.lease (κs .0) (qs .0) ∷ Row.off ∷ Row.alive ∷ []) (on 2 (Rows'.mref-owed (Array'.Array L.u64 768) y0 1 2 l0) T11)) b8 Δ3 at10
-          d10 = pre (Scalar.g-room U H A W E _ 4 S.ty (S.room U H A W)) (pre (Scalar.g-room U H A W E _ 6 Y.tyUnit (Scalar.room-sc U H A W Row.sUnit)) (pre (Lifetime.g-end U H A W E _ 2
-              refl) (pre (Reborrow.g-back-mref U H A W E _ 7 2 1 2 (Array'.Array L.u64 768) y0 y1 l0 (λ x. x) (λ x. x) (Reads.as-is U H A r3) (Reads.as-is U H A (Rows'.mref-owed
-              (Array'.Array L.u64 768) y0 1 2 l0)) refl refl) (pre (Lifetime.g-forget U H A W E _ 2 Row.dead refl) (Typed.s-typed U H A W C E _ b8 Δ3 (Typed.ask s13) tt (Scalar.t-op2 U H A W
-              E C _ (Y.add Y.unsigned) (Scalar.oAt 3 (Y.tyInt Y.w64) (Row.valS (Row.sInt Y.w64))) (Scalar.oInt Y.w64 1) 3 L.h64 (Y.tyInt Y.w64) (Row.valS (Row.sInt Y.w64)) (Row.sInt Y.w64
-              .of) (Scalar.reads-sc U H A W (Row.sInt Y.w64), refl) tt (Scalar.room-sc U H A W (Row.sInt Y.w64)) (Scalar.holds-sc U H A W (Row.sInt Y.w64)) refl (λ u. refl) λ u. tt))))))
+          d10 = pre (Typed.pass T11 T12 s8) (Scalar.g-room U H A W E _ 4 S.ty (S.room U H A W)) (pre (Typed.pass T12 T13 s9) (Scalar.g-room U H A W E _ 6 Y.tyUnit (Scalar.room-sc U H A W
+              Row.sUnit)) (pre (λ Ψ. Ψ) (Lifetime.g-end U H A W E _ 2 refl) (pre (Typed.ask s11) (Reborrow.g-back-mref U H A W E _ 7 2 1 2 (Array'.Array L.u64 768) y0 y1 l0 (λ x. x) (λ x. x)
+              (Reads.as-is U H A r3) (Reads.as-is U H A (Rows'.mref-owed (Array'.Array L.u64 768) y0 1 2 l0)) refl refl) (pre (λ Ψ. Ψ) (Lifetime.g-forget U H A W E _ 2 Row.dead refl)
+              (Typed.s-typed U H A W C E _ b8 Δ3 (Typed.ask s13) tt (Scalar.t-op2 U H A W E C _ (Y.add Y.unsigned) (Scalar.oAt 3 (Y.tyInt Y.w64) (Row.valS (Row.sInt Y.w64))) (Scalar.oInt
+              Y.w64 1) 3 L.h64 (Y.tyInt Y.w64) (Row.valS (Row.sInt Y.w64)) (Row.sInt Y.w64 .of) (Scalar.reads-sc U H A W (Row.sInt Y.w64), refl) tt (Scalar.room-sc U H A W (Row.sInt Y.w64))
+              (Scalar.holds-sc U H A W (Row.sInt Y.w64)) refl (λ u. refl) λ u. tt))))))
 
           d13 : Typed.Typed U H A C E (lives z0 T8) b10 Δ3 at13
-          d13 = pre (Lifetime.g-begin U H A W E _ 2 (tt, (tt, (tt, (tt, (tt, (tt, (tt, (tt, tt))))))))) (seq (Reborrow.t-mref-relend U H A W E C _ 2 7 1 2 (Array'.Array L.u64 768) y3 y0 y1
-              l0 (λ x. x) (Reads.as-is U H A r1) (gone y1) refl tt refl refl λ b o. tt) (seq (Plain.t-call-plain U H A W C 1 ps·1 r·1 (cl .2) (cl .3) "samples::put_seen" (known .1) E (λ pos
-              β. β) _ (record { pos = 7; ty = y1; ref = λ x. x }, (Num.vAt 3 λ x. x, (record { pos = 4; st = []; d = 0; at = λ x. x }, tt))) 6 (2 ∷ []) (Call.sub-id U H A W _)
+          d13 = pre (λ Ψ. Ψ) (Lifetime.g-begin U H A W E _ 2 (tt, (tt, (tt, (tt, (tt, (tt, (tt, (tt, tt))))))))) (seq (Typed.give s6) (Reborrow.t-mref-relend U H A W E C _ 2 7 1 2
+              (Array'.Array L.u64 768) y3 y0 y1 l0 (λ x. x) (Reads.as-is U H A r1) (gone y1) refl tt refl refl λ b o. tt) (seq (Typed.both s7) (Plain.t-call-plain U H A W C 1 ps·1 r·1 (cl
+              .2) (cl .3) "samples::put_seen" (known .1) E (λ pos β. β) _
+              (record { pos = 7; ty = y1; ref = λ x. x }, (Num.vAt 3 λ x. x, (record { pos = 4; st = []; d = 0; at = λ x. x }, tt))) 6 (2 ∷ []) (Call.sub-id U H A W _)
               (Reads.as-is U H A r2, Reads.reads-mref U H A W (Array'.Array L.u64 768) y1 2, refl, ((Scalar.reads-sc U H A W (Row.sInt Y.w64), refl), ((S.yields U H A W, refl), tt))) (gone
               Y.tyUnit) (tt, tt) refl) d10))
 
           d14 : Typed.Typed U H A C E G2 b11 Δ3 at14
-          d14 = seq (Plain.t-call-plain U H A W C 1 ps·0 r·0 (cl .0) (cl .1) "samples::peek" (known .0) E (λ pos β. β) _ (record { pos = 1; ty = y2; ref = λ x. x }, (Num.vAt 3 λ x. x, tt)) 4
-              (0 ∷ []) (Call.sub-id U H A W _)
+          d14 = seq (Typed.both s4) (Plain.t-call-plain U H A W C 1 ps·0 r·0 (cl .0) (cl .1) "samples::peek" (known .0) E (λ pos β. β) _
+              (record { pos = 1; ty = y2; ref = λ x. x }, (Num.vAt 3 λ x. x, tt)) 4 (0 ∷ []) (Call.sub-id U H A W _)
               (ShrSlice.spares-sslice U H A W S.row y2 0, Shared.reads-sslice U H A W S.row y2 0, refl, ((Scalar.reads-sc U H A W (Row.sInt Y.w64), refl), tt)) (gone S.ty) (tt, tt) refl) d13
 
           d16 : Typed.Typed U H A C E G2 b13 Δ3 at16
-          d16 = seq (Scalar.t-op2 U H A W E C _ (Y.lt Y.unsigned) (Scalar.oAt 3 (Y.tyInt Y.w64) (Row.valS (Row.sInt Y.w64))) (Scalar.oInt Y.w64 256) 5 L.hbool Y.tyBool (Row.valS Row.sBool)
-              (Row.sBool .of) (Scalar.reads-sc U H A W (Row.sInt Y.w64), refl) tt (gone Y.tyBool) (Scalar.holds-sc U H A W Row.sBool) refl (λ u. refl) λ u. tt) (Typed.t-seq U H A W C E _ _
-              b4 b11 Δ3 at4 at14 d4 d14)
+          d16 = seq (Typed.ask s1) (Scalar.t-op2 U H A W E C _ (Y.lt Y.unsigned) (Scalar.oAt 3 (Y.tyInt Y.w64) (Row.valS (Row.sInt Y.w64))) (Scalar.oInt Y.w64 256) 5 L.hbool Y.tyBool
+              (Row.valS Row.sBool) (Row.sBool .of) (Scalar.reads-sc U H A W (Row.sInt Y.w64), refl) tt (gone Y.tyBool) (Scalar.holds-sc U H A W Row.sBool) refl (λ u. refl) λ u. tt)
+              (Typed.t-seq U H A W C E _ _ b4 b11 Δ3 at4 at14 d4 d14)
 
           d17 : Typed.Typed U H A C E G2 b14 Δ2 at17
           d17 = Typed.t-loop-by U H A W C E _ b13 Δ2 put0 (λ u vs. Inv·0 (Row.get 1 (T2 .locals) u .now) (Row.get 2 (T2 .locals) u .now) (Row.get 3 (T2 .locals) u) (vs .0) (vs .1)) (λ u vs.
@@ -361,12 +372,13 @@ module _ (cl : Claims) where
           d18 = Typed.t-block U H A W C E _ b14 Δ1 at17 d17
 
           d21 : Typed.Typed U H A C E G2 b18 Δ0 at21
-          d21 = seq (Scalar.t-use U H A W E C _ Scalar.oUnit 0 L.hunit Y.tyUnit (Row.valS Row.sUnit) (Row.sUnit .of) tt (gone Y.tyUnit) (Scalar.holds-sc U H A W Row.sUnit) refl (λ u. refl) λ
-              u. tt) (pre (Scalar.g-room U H A W E _ 3 (Y.tyInt Y.w64) (Scalar.room-sc U H A W (Row.sInt Y.w64))) (Typed.t-return U H A W C E Δ0 tt))
+          d21 = seq (Typed.pass T2 T18 s14) (Scalar.t-use U H A W E C _ Scalar.oUnit 0 L.hunit Y.tyUnit (Row.valS Row.sUnit) (Row.sUnit .of) tt (gone Y.tyUnit) (Scalar.holds-sc U H A W
+              Row.sUnit) refl (λ u. refl) λ u. tt) (pre (Typed.pass T18 T1 s15) (Scalar.g-room U H A W E _ 3 (Y.tyInt Y.w64) (Scalar.room-sc U H A W (Row.sInt Y.w64))) (Typed.t-return U H A
+              W C E Δ0 tt))
 
           d23 : Typed.Typed U H A C E (lives z0 T0) b20 Δ0 at23
-          d23 = seq (Scalar.t-use U H A W E C _ (Scalar.oInt Y.w64 0) 3 L.h64 (Y.tyInt Y.w64) (Row.valS (Row.sInt Y.w64)) (Row.sInt Y.w64 .of) tt (gone (Y.tyInt Y.w64)) (Scalar.holds-sc U H
-              A W (Row.sInt Y.w64)) refl (λ u. refl) λ u. tt) (Typed.t-seq U H A W C E _ _ b15 b18 Δ0 at18 at21 d18 d21)
+          d23 = seq (Typed.pass T0 T2 s0) (Scalar.t-use U H A W E C _ (Scalar.oInt Y.w64 0) 3 L.h64 (Y.tyInt Y.w64) (Row.valS (Row.sInt Y.w64)) (Row.sInt Y.w64 .of) tt (gone (Y.tyInt Y.w64))
+              (Scalar.holds-sc U H A W (Row.sInt Y.w64)) refl (λ u. refl) λ u. tt) (Typed.t-seq U H A W C E _ _ b15 b18 Δ0 at18 at21 d18 d21)
 
           pub typed : Typed.Typed U H A C E (Function.Γin 2 ps r xs m κs qs) b20 (Function.Δret 2 ps r xs m κs qs) Φ
           typed = d23
@@ -410,9 +422,9 @@ module _ (cl : Claims) where
       Need-loop-holds = (c : Start) → Inv·0 (Row.get 1 (T2 .locals) (m1 c) .now) (Row.get 2 (T2 .locals) (m1 c) .now) (Row.get 3 (T2 .locals) (m1 c)) (Row.get 2 (T2 .locals) (m1 c) .now)
           (Row.get 3 (T2 .locals) (m1 c))
 
-      abbrev m2 : (before : Start) → (out : Array'.Array L.u64 768 .Denot) → (i : L.h64 .Mod) → Typed.Mo T2
-      m2 before out i = Row.set 3 (3, L.h64) i (Row.setRow 2 (2, r1) (T2 .locals)) (Row.set 2 (2, r1) record
-          { ptr = Row.get 2 (T2 .locals) (m1 before) .ptr; name = Row.get 2 (T2 .locals) (m1 before) .name; now = out } (T2 .locals) (m1 before))
+      abbrev m2 : (c : Start) → (out : Array'.Array L.u64 768 .Denot) → (i : L.h64 .Mod) → Typed.Mo T2
+      m2 c out i = Row.set 3 (3, L.h64) i (Row.setRow 2 (2, r1) (T2 .locals)) (Row.set 2 (2, r1) record
+          { ptr = Row.get 2 (T2 .locals) (m1 c) .ptr; name = Row.get 2 (T2 .locals) (m1 c) .name; now = out } (T2 .locals) (m1 c))
 
       abbrev W3 : (c : Start) → (out : Array'.Array L.u64 768 .Denot) → (i : L.h64 .Mod) → Typed.Want O3
       W3 c out i = Typed.inLoop T2 O2 (Typed.Round T2 O2 put0 (λ u vs. Inv·0 (Row.get 1 (T2 .locals) u .now) (Row.get 2 (T2 .locals) u .now) (Row.get 3 (T2 .locals) u) (vs .0) (vs .1)) (λ u

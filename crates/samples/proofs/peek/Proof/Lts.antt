@@ -204,43 +204,43 @@ module _ (cl : Claims) where
         abbrev E : Wp.Env U H
         E = Frame.EnvOf U H (Kinds.tyR r ∷ (Enter.tysP ps xs)) bs
 
-        pre : {Γ Γ₁ : Row.Cx} {b : Y.Body} {Δ : Typed.Outs} {φ : Typed.Tf Γ Γ₁} {Φ : Typed.TF Γ₁ Δ} → Typed.Ghost U H A E Γ Γ₁ φ → Typed.Typed U H A C E Γ₁ b Δ Φ → Typed.Typed U H A C E Γ b
+        pre : {Γ Γ₁ : Row.Cx} {b : Y.Body} {Δ : Typed.Outs} {Φ : Typed.TF Γ₁ Δ} (φ : Typed.Tf Γ Γ₁) → Typed.Ghost U H A E Γ Γ₁ φ → Typed.Typed U H A C E Γ₁ b Δ Φ → Typed.Typed U H A C E Γ b
             Δ (λ Ψ. φ (Φ Ψ))
-        pre = Typed.g-pre U H A W C E _ _ _ _ _ _
+        pre φ = Typed.g-pre U H A W C E _ _ _ _ φ _
 
-        seq : {Γ Γ₁ : Row.Cx} {a b : Y.Body} {Δ : Typed.Outs} {φ : Typed.Tf Γ Γ₁} {Φ : Typed.TF Γ₁ Δ} → Typed.Stmt U H A C E Γ a Γ₁ φ → Typed.Typed U H A C E Γ₁ b Δ Φ → Typed.Typed U H A C E
+        seq : {Γ Γ₁ : Row.Cx} {a b : Y.Body} {Δ : Typed.Outs} {Φ : Typed.TF Γ₁ Δ} (φ : Typed.Tf Γ Γ₁) → Typed.Stmt U H A C E Γ a Γ₁ φ → Typed.Typed U H A C E Γ₁ b Δ Φ → Typed.Typed U H A C E
             Γ (Y.seq a b) Δ (λ Ψ. φ (Φ Ψ))
-        seq = Typed.s-seq U H A W C E _ _ _ _ _ _ _
+        seq φ = Typed.s-seq U H A W C E _ _ _ _ _ φ _
 
         d1 : Typed.Typed U H A C E G7 b3 Δ1 at1
-        d1 = pre (Scalar.g-room U H A W E _ 2 (Y.tyInt Y.w64) (Scalar.room-sc U H A W (Row.sInt Y.w64))) (Typed.t-return U H A W C E Δ1 tt)
+        d1 = pre (Typed.pass T7 T1 s5) (Scalar.g-room U H A W E _ 2 (Y.tyInt Y.w64) (Scalar.room-sc U H A W (Row.sInt Y.w64))) (Typed.t-return U H A W C E Δ1 tt)
 
         d3 : Typed.Typed U H A C E G5 b4 Δ1 at3
-        d3 = pre (Scalar.g-room U H A W E _ 4 Y.tyBool (Scalar.room-sc U H A W Row.sBool)) (seq (Plain.t-call-plain U H A W C 1 ps·0 r·0 (cl .0) (cl .1) "samples::get" (known .0) E (λ pos β.
-            β) _ (record { pos = 1; ty = y0; ref = λ x. x }, (Num.vAt 2 λ x. x, tt)) 0 (0 ∷ []) (Call.sub-id U H A W _)
+        d3 = pre (Typed.pass T5 T0 s3) (Scalar.g-room U H A W E _ 4 Y.tyBool (Scalar.room-sc U H A W Row.sBool)) (seq (Typed.both s4) (Plain.t-call-plain U H A W C 1 ps·0 r·0 (cl .0) (cl .1)
+            "samples::get" (known .0) E (λ pos β. β) _ (record { pos = 1; ty = y0; ref = λ x. x }, (Num.vAt 2 λ x. x, tt)) 0 (0 ∷ []) (Call.sub-id U H A W _)
             (ShrSlice.spares-sslice U H A W S.row y0 0, Shared.reads-sslice U H A W S.row y0 0, refl, ((Scalar.reads-sc U H A W (Row.sInt Y.w64), refl), tt)) (Reads.room-gone U H A S.ty)
             (tt, tt) refl) d1)
 
         d5 : Typed.Typed U H A C E G5 b5 Δ1 at5
-        d5 = pre (Scalar.g-room U H A W E _ 4 Y.tyBool (Scalar.room-sc U H A W Row.sBool)) (Typed.t-skip U H A W C E Δ1 tt)
+        d5 = pre (Typed.pass T5 T0 s3) (Scalar.g-room U H A W E _ 4 Y.tyBool (Scalar.room-sc U H A W Row.sBool)) (Typed.t-skip U H A W C E Δ1 tt)
 
         d7 : Typed.Typed U H A C E G3 b6 Δ1 at7
-        d7 = pre (Scalar.g-room U H A W E _ 3 (Y.tyInt Y.w64) (Scalar.room-sc U H A W (Row.sInt Y.w64))) (Scalar.t-cond U H A W E C _ 4 (λ x. x) b4 b5 Δ1 at3 at5 (Scalar.reads-sc U H A W
-            Row.sBool) refl d3 d5)
+        d7 = pre (Typed.pass T3 T5 s2) (Scalar.g-room U H A W E _ 3 (Y.tyInt Y.w64) (Scalar.room-sc U H A W (Row.sInt Y.w64))) (Scalar.t-cond U H A W E C _ 4 (λ x. x) b4 b5 Δ1 at3 at5
+            (Scalar.reads-sc U H A W Row.sBool) refl d3 d5)
 
         d9 : Typed.Typed U H A C E G7 b3 Δ0 at9
-        d9 = pre (Scalar.g-room U H A W E _ 2 (Y.tyInt Y.w64) (Scalar.room-sc U H A W (Row.sInt Y.w64))) (Typed.t-return U H A W C E Δ0 tt)
+        d9 = pre (Typed.pass T7 T1 s5) (Scalar.g-room U H A W E _ 2 (Y.tyInt Y.w64) (Scalar.room-sc U H A W (Row.sInt Y.w64))) (Typed.t-return U H A W C E Δ0 tt)
 
         d10 : Typed.Typed U H A C E G0 b9 Δ0 at10
-        d10 = seq (Plain.t-call-plain U H A W C 0 ps·1 r·1 (cl .2) (cl .3) "samples::empty" (known .1) E (λ pos β. β) _ tt 0 [] (Call.sub-id U H A W _) tt (Reads.room-gone U H A S.ty) tt
-            refl) d9
+        d10 = seq (Typed.both s7) (Plain.t-call-plain U H A W C 0 ps·1 r·1 (cl .2) (cl .3) "samples::empty" (known .1) E (λ pos β. β) _ tt 0 [] (Call.sub-id U H A W _) tt (Reads.room-gone U
+            H A S.ty) tt refl) d9
 
         d13 : Typed.Typed U H A C E G0 b12 Δ0 at13
-        d13 = seq (Scalar.t-use U H A W E C _ (Scalar.oFld 1 (Y.field 1 ∷ []) (Y.tyInt Y.w64) 8 Shared.lenV) 3 L.h64 (Y.tyInt Y.w64) (Row.valS (Row.sInt Y.w64)) (Row.sInt Y.w64 .of)
-            (Shared.reads-sslice-len U H A W S.row y0 0 8 refl, refl) (Reads.room-gone U H A (Y.tyInt Y.w64)) (Scalar.holds-sc U H A W (Row.sInt Y.w64)) refl (λ u. refl) λ u. tt) (seq
-            (Scalar.t-op2 U H A W E C _ (Y.lt Y.unsigned) (Scalar.oAt 2 (Y.tyInt Y.w64) (Row.valS (Row.sInt Y.w64))) (Scalar.oAt 3 (Y.tyInt Y.w64) (Row.valS (Row.sInt Y.w64))) 4 L.hbool
-            Y.tyBool (Row.valS Row.sBool) (Row.sBool .of) (Scalar.reads-sc U H A W (Row.sInt Y.w64), refl) (Scalar.reads-sc U H A W (Row.sInt Y.w64), refl) (Reads.room-gone U H A Y.tyBool)
-            (Scalar.holds-sc U H A W Row.sBool) refl (λ u. refl) λ u. tt) (Typed.t-seq U H A W C E _ _ b6 b9 Δ0 at7 at10 d7 d10))
+        d13 = seq (Typed.pass T0 T2 s0) (Scalar.t-use U H A W E C _ (Scalar.oFld 1 (Y.field 1 ∷ []) (Y.tyInt Y.w64) 8 Shared.lenV) 3 L.h64 (Y.tyInt Y.w64) (Row.valS (Row.sInt Y.w64))
+            (Row.sInt Y.w64 .of) (Shared.reads-sslice-len U H A W S.row y0 0 8 refl, refl) (Reads.room-gone U H A (Y.tyInt Y.w64)) (Scalar.holds-sc U H A W (Row.sInt Y.w64)) refl (λ u. refl)
+            λ u. tt) (seq (Typed.ask s1) (Scalar.t-op2 U H A W E C _ (Y.lt Y.unsigned) (Scalar.oAt 2 (Y.tyInt Y.w64) (Row.valS (Row.sInt Y.w64))) (Scalar.oAt 3 (Y.tyInt Y.w64) (Row.valS
+            (Row.sInt Y.w64))) 4 L.hbool Y.tyBool (Row.valS Row.sBool) (Row.sBool .of) (Scalar.reads-sc U H A W (Row.sInt Y.w64), refl) (Scalar.reads-sc U H A W (Row.sInt Y.w64), refl)
+            (Reads.room-gone U H A Y.tyBool) (Scalar.holds-sc U H A W Row.sBool) refl (λ u. refl) λ u. tt) (Typed.t-seq U H A W C E _ _ b6 b9 Δ0 at7 at10 d7 d10))
 
         pub typed : Typed.Typed U H A C E (Function.Γin 1 ps r xs m κs qs) b12 (Function.Δret 1 ps r xs m κs qs) Φ
         typed = d13

@@ -58,6 +58,9 @@ r4 = Mut.mslice S.row y1 1
 abbrev r5 : Row.Row
 r5 = Mut.msleft S.row y1
 
+abbrev r6 : Row.Row
+r6 = Rows'.any-gone y1
+
 abbrev r7 : Row.Row
 r7 = Rows'.any-gone S.ty
 
@@ -109,7 +112,10 @@ abbrev pub Claims : Type 1
 Claims = Kinds.In 1 ps·0 × Kinds.Out 1 ps·0 r·0
 
 abbrev t0 : List.List Row.Entry
-t0 = (0, L.gunit) ∷ (1, r1) ∷ (2, L.h64) ∷ (3, S.here) ∷ (4, L.g64) ∷ (5, L.gbool) ∷ (6, L.gunit) ∷ (7, (Rows'.any-gone y1)) ∷ (8, (Rows'.any-gone (L.sl y1))) ∷ []
+t0 = (0, L.gunit) ∷ (1, r1) ∷ (2, L.h64) ∷ (3, S.here) ∷ (4, L.g64) ∷ (5, L.gbool) ∷ (6, L.gunit) ∷ (7, r6) ∷ (8, (Rows'.any-gone (L.sl y1))) ∷ []
+
+abbrev t9 : List.List Row.Entry
+t9 = (0, L.gunit) ∷ (1, r0) ∷ (2, L.h64) ∷ (3, r7) ∷ (4, L.g64) ∷ (5, L.gbool) ∷ (6, L.hunit) ∷ (7, r6) ∷ (8, r5) ∷ []
 
 abbrev on : Nat.ℕ → Row.Row → Row.Cx → Row.Cx
 on n r Γ = record { locals = Row.setRow n (n, r) (Γ .locals); slots = Γ .slots }
@@ -142,19 +148,19 @@ abbrev T9 : Row.Cx
 T9 = on 8 r4 (on 1 r0 T0)
 
 abbrev T10 : Row.Cx
-T10 = on 8 r5 (on 6 L.hunit T9)
+T10 = on 8 r5 (on 6 L.hunit (on 1 r0 T0))
 
 abbrev T11 : Row.Cx
-T11 = on 3 r7 T10
+T11 = record { locals = t9; slots = [] }
 
 abbrev T12 : Row.Cx
 T12 = on 6 L.gunit T11
 
 abbrev T16 : Row.Cx
-T16 = on 3 r7 T5
+T16 = on 5 L.hbool T4
 
 abbrev T18 : Row.Cx
-T18 = on 2 L.h64 T1
+T18 = on 0 L.hunit T4
 
 abbrev O0 : Typed.Outs
 O0 = record { next = Option.none; exits = []; returns = Option.some T1 }
@@ -259,13 +265,13 @@ module _ (cl : Claims) where
         abbrev E : Wp.Env U H
         E = Frame.EnvOf U H (Kinds.tyR r ∷ (Enter.tysP ps xs)) bs
 
-        pre : {Γ Γ₁ : Row.Cx} {b : Y.Body} {Δ : Typed.Outs} {φ : Typed.Tf Γ Γ₁} {Φ : Typed.TF Γ₁ Δ} → Typed.Ghost U H A E Γ Γ₁ φ → Typed.Typed U H A C E Γ₁ b Δ Φ → Typed.Typed U H A C E Γ b
+        pre : {Γ Γ₁ : Row.Cx} {b : Y.Body} {Δ : Typed.Outs} {Φ : Typed.TF Γ₁ Δ} (φ : Typed.Tf Γ Γ₁) → Typed.Ghost U H A E Γ Γ₁ φ → Typed.Typed U H A C E Γ₁ b Δ Φ → Typed.Typed U H A C E Γ b
             Δ (λ Ψ. φ (Φ Ψ))
-        pre = Typed.g-pre U H A W C E _ _ _ _ _ _
+        pre φ = Typed.g-pre U H A W C E _ _ _ _ φ _
 
-        seq : {Γ Γ₁ : Row.Cx} {a b : Y.Body} {Δ : Typed.Outs} {φ : Typed.Tf Γ Γ₁} {Φ : Typed.TF Γ₁ Δ} → Typed.Stmt U H A C E Γ a Γ₁ φ → Typed.Typed U H A C E Γ₁ b Δ Φ → Typed.Typed U H A C E
+        seq : {Γ Γ₁ : Row.Cx} {a b : Y.Body} {Δ : Typed.Outs} {Φ : Typed.TF Γ₁ Δ} (φ : Typed.Tf Γ Γ₁) → Typed.Stmt U H A C E Γ a Γ₁ φ → Typed.Typed U H A C E Γ₁ b Δ Φ → Typed.Typed U H A C E
             Γ (Y.seq a b) Δ (λ Ψ. φ (Φ Ψ))
-        seq = Typed.s-seq U H A W C E _ _ _ _ _ _ _
+        seq φ = Typed.s-seq U H A W C E _ _ _ _ _ φ _
 
         post : {Γ Γ₁ Γ₂ : Row.Cx} {a : Y.Body} {φ : Typed.Tf Γ Γ₁} {φ′ : Typed.Tf Γ₁ Γ₂} → Typed.Stmt U H A C E Γ a Γ₁ φ → Typed.Ghost U H A E Γ₁ Γ₂ φ′ → Typed.Stmt U H A C E Γ a Γ₂ (λ Ψ. φ
             (φ′ Ψ))
@@ -275,11 +281,12 @@ module _ (cl : Claims) where
         gone = Reads.room-gone U H A
 
         d4 : Typed.Typed U H A C E G5 b6 Δ1 at4
-        d4 = pre (Scalar.g-room U H A W E _ 5 Y.tyBool (Scalar.room-sc U H A W Row.sBool)) (pre (Lifetime.g-begin U H A W E _ 1 (tt, (tt, (tt, (tt, (tt, (tt, (tt, (tt, (tt, tt)))))))))) (seq
-            (Relend.t-sl-relend U H A W E S.row C _ 1 7 0 1 y0 y1 l0 0 (λ x. x) (Reads.as-is U H A r1) (gone y1) refl tt refl refl refl λ b o. tt) (seq (Relend.t-sl-aggregate U H A W E S.row
-            C (Relend.asMut S.row) _ 7 8 1 y1 y1 (λ x. x) (Scalar.oFld 1 (Y.field 1 ∷ []) (Y.tyInt Y.w64) 8 λ v. Shared.lenV (v .0)) (Reads.as-is U H A r3) (gone (L.sl y1))
-            (Relend.reads-owed-len U H A W S.row y0 0 1 l0 8 refl, refl) refl refl λ b o k. tt) (Typed.s-typed U H A W C E _ b4 Δ1 (λ Ψ. Typed.both s7 (Typed.pass T10 T11 s8 (Typed.pass T11
-            T12 s9 (Typed.both s11 Ψ)))) tt (post (post (post (post (post (Plain.t-call-plain U H A W C 1 ps·0 r·0 (cl .0) (cl .1) "samples::put" known E (λ pos β. β) _
+        d4 = pre (Typed.pass T5 T0 s3) (Scalar.g-room U H A W E _ 5 Y.tyBool (Scalar.room-sc U H A W Row.sBool)) (pre (λ Ψ. Ψ) (Lifetime.g-begin U H A W E _ 1
+            (tt, (tt, (tt, (tt, (tt, (tt, (tt, (tt, (tt, tt)))))))))) (seq (Typed.give s5) (Relend.t-sl-relend U H A W E S.row C _ 1 7 0 1 y0 y1 l0 0 (λ x. x) (Reads.as-is U H A r1) (gone
+            y1) refl tt refl refl refl λ b o. tt) (seq (Typed.ask s6) (Relend.t-sl-aggregate U H A W E S.row C (Relend.asMut S.row) _ 7 8 1 y1 y1 (λ x. x) (Scalar.oFld 1 (Y.field 1 ∷ [])
+            (Y.tyInt Y.w64) 8 λ v. Shared.lenV (v .0)) (Reads.as-is U H A r3) (gone (L.sl y1)) (Relend.reads-owed-len U H A W S.row y0 0 1 l0 8 refl, refl) refl refl λ b o k. tt)
+            (Typed.s-typed U H A W C E _ b4 Δ1 (λ Ψ. Typed.both s7 (Typed.pass T10 T11 s8 (Typed.pass T11 T12 s9 (Typed.both s11 Ψ)))) tt (post (post (post (post (post (Plain.t-call-plain U
+            H A W C 1 ps·0 r·0 (cl .0) (cl .1) "samples::put" known E (λ pos β. β) _
             (record { pos = 8; ty = y1; ref = λ x. x }, (Num.vAt 2 λ x. x, (record { pos = 3; st = []; d = 0; at = λ x. x }, tt))) 6 (1 ∷ []) (Call.sub-id U H A W _)
             (Reads.as-is U H A r4, Mut.reads-mslice U H A W S.row y1 1, refl, ((Scalar.reads-sc U H A W (Row.sInt Y.w64), refl), ((S.yields U H A W, refl), tt))) (gone Y.tyUnit) (tt, tt)
             refl) (Scalar.g-room U H A W E _ 3 S.ty (S.room U H A W))) (Scalar.g-room U H A W E _ 6 Y.tyUnit (Scalar.room-sc U H A W Row.sUnit))) (Lifetime.g-end U H A W E _ 1 refl))
@@ -287,22 +294,24 @@ module _ (cl : Claims) where
             (Lifetime.g-forget U H A W E _ 1 Row.dead refl))))))
 
         d7 : Typed.Typed U H A C E G5 b7 Δ1 at7
-        d7 = pre (Scalar.g-room U H A W E _ 3 S.ty (S.room U H A W)) (pre (Scalar.g-room U H A W E _ 5 Y.tyBool (Scalar.room-sc U H A W Row.sBool)) (Typed.t-skip U H A W C E Δ1 tt))
+        d7 = pre (Typed.pass T5 T16 s13) (Scalar.g-room U H A W E _ 3 S.ty (S.room U H A W)) (pre (Typed.pass T16 T4 s14) (Scalar.g-room U H A W E _ 5 Y.tyBool (Scalar.room-sc U H A W
+            Row.sBool)) (Typed.t-skip U H A W C E Δ1 tt))
 
         d9 : Typed.Typed U H A C E (lives z0 T3) b8 Δ1 at9
-        d9 = pre (Scalar.g-room U H A W E _ 4 (Y.tyInt Y.w64) (Scalar.room-sc U H A W (Row.sInt Y.w64))) (Scalar.t-cond U H A W E C _ 5 (λ x. x) b6 b7 Δ1 at4 at7 (Scalar.reads-sc U H A W
-            Row.sBool) refl d4 d7)
+        d9 = pre (Typed.pass T3 T5 s2) (Scalar.g-room U H A W E _ 4 (Y.tyInt Y.w64) (Scalar.room-sc U H A W (Row.sInt Y.w64))) (Scalar.t-cond U H A W E C _ 5 (λ x. x) b6 b7 Δ1 at4 at7
+            (Scalar.reads-sc U H A W Row.sBool) refl d4 d7)
 
         d12 : Typed.Typed U H A C E G4 b11 Δ0 at12
-        d12 = seq (Scalar.t-use U H A W E C _ Scalar.oUnit 0 L.hunit Y.tyUnit (Row.valS Row.sUnit) (Row.sUnit .of) tt (gone Y.tyUnit) (Scalar.holds-sc U H A W Row.sUnit) refl (λ u. refl) λ
-            u. tt) (pre (Scalar.g-room U H A W E _ 2 (Y.tyInt Y.w64) (Scalar.room-sc U H A W (Row.sInt Y.w64))) (Typed.t-return U H A W C E Δ0 tt))
+        d12 = seq (Typed.pass T4 T18 s15) (Scalar.t-use U H A W E C _ Scalar.oUnit 0 L.hunit Y.tyUnit (Row.valS Row.sUnit) (Row.sUnit .of) tt (gone Y.tyUnit) (Scalar.holds-sc U H A W
+            Row.sUnit) refl (λ u. refl) λ u. tt) (pre (Typed.pass T18 T1 s16) (Scalar.g-room U H A W E _ 2 (Y.tyInt Y.w64) (Scalar.room-sc U H A W (Row.sInt Y.w64))) (Typed.t-return U H A W
+            C E Δ0 tt))
 
         d15 : Typed.Typed U H A C E G0 b14 Δ0 at15
-        d15 = seq (Scalar.t-use U H A W E C _ (Scalar.oFld 1 (Y.field 1 ∷ []) (Y.tyInt Y.w64) 8 Shared.lenV) 4 L.h64 (Y.tyInt Y.w64) (Row.valS (Row.sInt Y.w64)) (Row.sInt Y.w64 .of)
-            (Mut.reads-mslice-len U H A W S.row y0 0 8 refl, refl) (gone (Y.tyInt Y.w64)) (Scalar.holds-sc U H A W (Row.sInt Y.w64)) refl (λ u. refl) λ u. tt) (seq (Scalar.t-op2 U H A W E C
-            _ (Y.lt Y.unsigned) (Scalar.oAt 2 (Y.tyInt Y.w64) (Row.valS (Row.sInt Y.w64))) (Scalar.oAt 4 (Y.tyInt Y.w64) (Row.valS (Row.sInt Y.w64))) 5 L.hbool Y.tyBool (Row.valS Row.sBool)
-            (Row.sBool .of) (Scalar.reads-sc U H A W (Row.sInt Y.w64), refl) (Scalar.reads-sc U H A W (Row.sInt Y.w64), refl) (gone Y.tyBool) (Scalar.holds-sc U H A W Row.sBool) refl (λ u.
-            refl) λ u. tt) (Typed.t-seq U H A W C E _ _ b8 b11 Δ0 at9 at12 d9 d12))
+        d15 = seq (Typed.pass T0 T2 s0) (Scalar.t-use U H A W E C _ (Scalar.oFld 1 (Y.field 1 ∷ []) (Y.tyInt Y.w64) 8 Shared.lenV) 4 L.h64 (Y.tyInt Y.w64) (Row.valS (Row.sInt Y.w64))
+            (Row.sInt Y.w64 .of) (Mut.reads-mslice-len U H A W S.row y0 0 8 refl, refl) (gone (Y.tyInt Y.w64)) (Scalar.holds-sc U H A W (Row.sInt Y.w64)) refl (λ u. refl) λ u. tt) (seq
+            (Typed.ask s1) (Scalar.t-op2 U H A W E C _ (Y.lt Y.unsigned) (Scalar.oAt 2 (Y.tyInt Y.w64) (Row.valS (Row.sInt Y.w64))) (Scalar.oAt 4 (Y.tyInt Y.w64) (Row.valS (Row.sInt Y.w64)))
+            5 L.hbool Y.tyBool (Row.valS Row.sBool) (Row.sBool .of) (Scalar.reads-sc U H A W (Row.sInt Y.w64), refl) (Scalar.reads-sc U H A W (Row.sInt Y.w64), refl) (gone Y.tyBool)
+            (Scalar.holds-sc U H A W Row.sBool) refl (λ u. refl) λ u. tt) (Typed.t-seq U H A W C E _ _ b8 b11 Δ0 at9 at12 d9 d12))
 
         pub typed : Typed.Typed U H A C E (Function.Γin 1 ps r xs m κs qs) b14 (Function.Δret 1 ps r xs m κs qs) Φ
         typed = d15

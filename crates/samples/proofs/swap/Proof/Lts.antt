@@ -77,6 +77,9 @@ r5 = Rows'.any-gone y1
 abbrev r6 : Row.Row
 r6 = Relend.ssptr S.row y3 1
 
+abbrev r7 : Row.Row
+r7 = Rows'.sslice S.row y3 1
+
 abbrev r8 : Row.Row
 r8 = Relend.msptr S.row y4 2
 
@@ -91,6 +94,9 @@ r11 = Mut.mslice S.row y4 3
 
 abbrev r12 : Row.Row
 r12 = Mut.msleft S.row y4
+
+abbrev r13 : Row.Row
+r13 = Rows'.any-gone y3
 
 abbrev r14 : Row.Row
 r14 = Rows'.any-gone y4
@@ -152,10 +158,19 @@ abbrev pub Claims : Type 1
 Claims = Kinds.In 1 ps·0 × Kinds.Out 1 ps·0 r·0 × Kinds.In 1 ps·1 × Kinds.Out 1 ps·1 r·1 × Kinds.In 1 ps·2 × Kinds.Out 1 ps·2 r·1
 
 abbrev t0 : List.List Row.Entry
-t0 = (0, r15) ∷ (1, r3) ∷ (2, L.h64) ∷ (3, L.h64) ∷ (4, S.here) ∷ (5, r15) ∷ (6, (Rows'.any-gone y3)) ∷ (7, r4) ∷ (8, L.gunit) ∷ (9, r14) ∷ (10, r5) ∷ (11, r14) ∷ (12, r5) ∷ []
+t0 = (0, r15) ∷ (1, r3) ∷ (2, L.h64) ∷ (3, L.h64) ∷ (4, S.here) ∷ (5, r15) ∷ (6, r13) ∷ (7, r4) ∷ (8, L.gunit) ∷ (9, r14) ∷ (10, r5) ∷ (11, r14) ∷ (12, r5) ∷ []
+
+abbrev t1 : List.List Row.Entry
+t1 = (0, S.here) ∷ (1, r3) ∷ (2, L.g64) ∷ (3, L.g64) ∷ (4, r15) ∷ (5, r15) ∷ (6, r13) ∷ (7, r4) ∷ (8, L.gunit) ∷ (9, r14) ∷ (10, r5) ∷ (11, r14) ∷ (12, r5) ∷ []
 
 abbrev t2 : List.List Row.Entry
 t2 = (0, r15) ∷ (1, r0) ∷ (2, L.h64) ∷ (3, L.h64) ∷ (4, S.here) ∷ (5, r15) ∷ (6, r6) ∷ (7, r4) ∷ (8, L.gunit) ∷ (9, r14) ∷ (10, r5) ∷ (11, r14) ∷ (12, r5) ∷ []
+
+abbrev t9 : List.List Row.Entry
+t9 = (0, r15) ∷ (1, r1) ∷ (2, L.h64) ∷ (3, L.h64) ∷ (4, S.here) ∷ (5, S.here) ∷ (6, r13) ∷ (7, r4) ∷ (8, L.hunit) ∷ (9, r14) ∷ (10, r12) ∷ (11, r14) ∷ (12, r5) ∷ []
+
+abbrev t14 : List.List Row.Entry
+t14 = (0, r15) ∷ (1, r2) ∷ (2, L.h64) ∷ (3, L.h64) ∷ (4, r15) ∷ (5, S.here) ∷ (6, r13) ∷ (7, r4) ∷ (8, L.hunit) ∷ (9, r14) ∷ (10, r5) ∷ (11, r14) ∷ (12, r12) ∷ []
 
 abbrev on : Nat.ℕ → Row.Row → Row.Cx → Row.Cx
 on n r Γ = record { locals = Row.setRow n (n, r) (Γ .locals); slots = Γ .slots }
@@ -167,58 +182,58 @@ abbrev T0 : Row.Cx
 T0 = record { locals = t0; slots = [] }
 
 abbrev T1 : Row.Cx
-T1 = on 4 r15 (on 3 L.g64 (on 2 L.g64 (on 0 S.here T0)))
+T1 = record { locals = t1; slots = [] }
 
 abbrev T3 : Row.Cx
 T3 = on 6 r6 (on 1 r0 T0)
 
 abbrev T4 : Row.Cx
-T4 = on 7 (Rows'.sslice S.row y3 1) (on 1 r0 T0)
+T4 = on 7 r7 (on 1 r0 T0)
 
 abbrev T5 : Row.Cx
 T5 = on 5 S.here T4
 
 abbrev T6 : Row.Cx
-T6 = on 7 r4 T5
+T6 = on 5 S.here (on 1 r0 T0)
 
 abbrev T8 : Row.Cx
 T8 = on 1 r3 T6
 
 abbrev T11 : Row.Cx
-T11 = on 9 r8 (on 1 r1 T6)
+T11 = on 9 r8 (on 5 S.here (on 1 r1 T0))
 
 abbrev T12 : Row.Cx
-T12 = on 10 r10 (on 1 r1 T6)
+T12 = on 10 r10 (on 5 S.here (on 1 r1 T0))
 
 abbrev T13 : Row.Cx
-T13 = on 10 r12 (on 8 L.hunit T12)
+T13 = record { locals = t9; slots = [] }
 
 abbrev T14 : Row.Cx
-T14 = on 10 r12 T12
+T14 = on 8 L.gunit T13
 
 abbrev T19 : Row.Cx
-T19 = on 11 r9 (on 1 r2 T6)
+T19 = on 11 r9 (on 5 S.here (on 1 r2 T0))
 
 abbrev T20 : Row.Cx
-T20 = on 12 r11 (on 1 r2 T6)
+T20 = on 12 r11 (on 5 S.here (on 1 r2 T0))
 
 abbrev T21 : Row.Cx
-T21 = on 12 r12 (on 8 L.hunit T20)
+T21 = on 12 r12 (on 10 r5 (on 1 r2 T13))
 
 abbrev T22 : Row.Cx
-T22 = on 4 r15 T21
+T22 = record { locals = t14; slots = [] }
 
 abbrev T23 : Row.Cx
 T23 = on 8 L.gunit T22
 
 abbrev T25 : Row.Cx
-T25 = on 4 r15 T8
+T25 = on 12 r5 (on 1 r3 T23)
 
 abbrev T27 : Row.Cx
-T27 = on 0 S.here T25
+T27 = on 5 S.here (on 4 r15 (on 0 S.here T0))
 
 abbrev T28 : Row.Cx
-T28 = on 5 r15 T27
+T28 = on 4 r15 (on 0 S.here T0)
 
 abbrev T29 : Row.Cx
 T29 = on 3 L.h64 T1
@@ -323,8 +338,8 @@ module _ (cl : Claims) where
       abbrev z0 : List.List Row.Life
       z0 = l0 ∷ Row.off ∷ Row.off ∷ Row.off ∷ []
 
-      abbrev G21 : Row.Cx
-      G21 = lives (Row.off ∷ Row.off ∷ Row.off ∷ Row.alive ∷ []) (on 1 (Relend.mslice-owed S.row y2 0 3 l0) T21)
+      abbrev z3 : List.List Row.Life
+      z3 = Row.off ∷ Row.off ∷ Row.off ∷ Row.alive ∷ []
 
       abbrev Δ0 : Typed.Outs
       Δ0 = record { next = Option.none; exits = []; returns = Option.some (lives z0 T1) }
@@ -334,13 +349,13 @@ module _ (cl : Claims) where
         abbrev E : Wp.Env U H
         E = Frame.EnvOf U H (Kinds.tyR r ∷ (Enter.tysP ps xs)) bs
 
-        pre : {Γ Γ₁ : Row.Cx} {b : Y.Body} {Δ : Typed.Outs} {φ : Typed.Tf Γ Γ₁} {Φ : Typed.TF Γ₁ Δ} → Typed.Ghost U H A E Γ Γ₁ φ → Typed.Typed U H A C E Γ₁ b Δ Φ → Typed.Typed U H A C E Γ b
+        pre : {Γ Γ₁ : Row.Cx} {b : Y.Body} {Δ : Typed.Outs} {Φ : Typed.TF Γ₁ Δ} (φ : Typed.Tf Γ Γ₁) → Typed.Ghost U H A E Γ Γ₁ φ → Typed.Typed U H A C E Γ₁ b Δ Φ → Typed.Typed U H A C E Γ b
             Δ (λ Ψ. φ (Φ Ψ))
-        pre = Typed.g-pre U H A W C E _ _ _ _ _ _
+        pre φ = Typed.g-pre U H A W C E _ _ _ _ φ _
 
-        seq : {Γ Γ₁ : Row.Cx} {a b : Y.Body} {Δ : Typed.Outs} {φ : Typed.Tf Γ Γ₁} {Φ : Typed.TF Γ₁ Δ} → Typed.Stmt U H A C E Γ a Γ₁ φ → Typed.Typed U H A C E Γ₁ b Δ Φ → Typed.Typed U H A C E
+        seq : {Γ Γ₁ : Row.Cx} {a b : Y.Body} {Δ : Typed.Outs} {Φ : Typed.TF Γ₁ Δ} (φ : Typed.Tf Γ Γ₁) → Typed.Stmt U H A C E Γ a Γ₁ φ → Typed.Typed U H A C E Γ₁ b Δ Φ → Typed.Typed U H A C E
             Γ (Y.seq a b) Δ (λ Ψ. φ (Φ Ψ))
-        seq = Typed.s-seq U H A W C E _ _ _ _ _ _ _
+        seq φ = Typed.s-seq U H A W C E _ _ _ _ _ φ _
 
         begin : {Γ : Row.Cx} (α : Nat.ℕ) → Row.Fresh α (Γ .locals) → Typed.Ghost U H A E Γ (Lifetime.Begun Γ α) (Typed.pass Γ (Lifetime.Begun Γ α) (λ u. u))
         begin = Lifetime.g-begin U H A W E _
@@ -351,41 +366,44 @@ module _ (cl : Claims) where
         gone : (τ : Y.Ty) → Reads.ToRoom U H A (Rows'.any-gone τ) τ
         gone = Reads.room-gone U H A
 
-        d7 : Typed.Typed U H A C E (on 8 L.gunit (on 4 r15 G21)) b11 Δ0 at7
-        d7 = pre (Lifetime.g-end U H A W E _ 3 refl) (pre (Relend.g-back-sl U H A W E S.row _ 12 1 0 3 y2 y4 l0 (λ x. x) (λ x. x) (as-is r12) (as-is (Relend.mslice-owed S.row y2 0 3 l0))
-            refl refl) (pre (Lifetime.g-forget U H A W E _ 3 Row.dead refl) (seq (LocalCopy.t-val-copy U H A W E C (λ ρ. Unit) _ 5 0 S.row S.ty S.ty S.here S.here (λ x. x) (λ x. x) (λ x. x)
-            refl (Own.told-none U H A ((lives z0 T25) .slots)) (Yields.yields-copy U H A W (λ ρ. Unit) S.row refl (S.copies .copy U H A W) S.here (λ x. x) (λ x. x) (λ ρ told. S.in-mem U H A
-            W ρ) λ ρ told. S.of-mem U H A W ρ) (gone S.ty) (Yields.makes-mem U H A W (λ ρ. Unit) S.row refl S.here (λ x. x) λ ρ told. S.of-mem U H A W ρ) refl refl) (pre (Scalar.g-room U H A
-            W E _ 5 S.ty (S.room U H A W)) (pre (Scalar.g-room U H A W E _ 2 (Y.tyInt Y.w64) (Scalar.room-sc U H A W (Row.sInt Y.w64))) (pre (Scalar.g-room U H A W E _ 3 (Y.tyInt Y.w64)
-            (Scalar.room-sc U H A W (Row.sInt Y.w64))) (Typed.t-return U H A W C E Δ0 tt)))))))
+        d7 : Typed.Typed U H A C E (lives z3 (on 1 (Relend.mslice-owed S.row y2 0 3 l0) T23)) b11 Δ0 at7
+        d7 = pre (λ Ψ. Ψ) (Lifetime.g-end U H A W E _ 3 refl) (pre (Typed.both s23) (Relend.g-back-sl U H A W E S.row _ 12 1 0 3 y2 y4 l0 (λ x. x) (λ x. x) (as-is r12) (as-is
+            (Relend.mslice-owed S.row y2 0 3 l0)) refl refl) (pre (λ Ψ. Ψ) (Lifetime.g-forget U H A W E _ 3 Row.dead refl) (seq (Typed.pass T25 T27 s25) (LocalCopy.t-val-copy U H A W E C (λ
+            ρ. Unit) _ 5 0 S.row S.ty S.ty S.here S.here (λ x. x) (λ x. x) (λ x. x) refl (Own.told-none U H A ((lives z0 T25) .slots)) (Yields.yields-copy U H A W (λ ρ. Unit) S.row refl
+            (S.copies .copy U H A W) S.here (λ x. x) (λ x. x) (λ ρ told. S.in-mem U H A W ρ) λ ρ told. S.of-mem U H A W ρ) (gone S.ty) (Yields.makes-mem U H A W (λ ρ. Unit) S.row refl S.here
+            (λ x. x) λ ρ told. S.of-mem U H A W ρ) refl refl) (pre (Typed.pass T27 T28 s26) (Scalar.g-room U H A W E _ 5 S.ty (S.room U H A W)) (pre (Typed.pass T28 T29 s27) (Scalar.g-room U
+            H A W E _ 2 (Y.tyInt Y.w64) (Scalar.room-sc U H A W (Row.sInt Y.w64))) (pre (Typed.pass T29 T1 s28) (Scalar.g-room U H A W E _ 3 (Y.tyInt Y.w64) (Scalar.room-sc U H A W (Row.sInt
+            Y.w64))) (Typed.t-return U H A W C E Δ0 tt)))))))
 
-        d9 : Typed.Typed U H A C E G21 b11 Δ0 at9
-        d9 = pre (Scalar.g-room U H A W E _ 4 S.ty (S.room U H A W)) (pre (Scalar.g-room U H A W E _ 8 Y.tyUnit (Scalar.room-sc U H A W Row.sUnit)) d7)
+        d9 : Typed.Typed U H A C E (lives z3 (on 4 S.here (on 1 (Relend.mslice-owed S.row y2 0 3 l0) T22))) b11 Δ0 at9
+        d9 = pre (Typed.pass T21 T22 s20) (Scalar.g-room U H A W E _ 4 S.ty (S.room U H A W)) (pre (Typed.pass T22 T23 s21) (Scalar.g-room U H A W E _ 8 Y.tyUnit (Scalar.room-sc U H A W
+            Row.sUnit)) d7)
 
         d17 : Typed.Typed U H A C E (lives (Row.off ∷ Row.off ∷ Row.alive ∷ Row.off ∷ []) (on 1 (Relend.mslice-owed S.row y2 0 2 l0) T13)) b14 Δ0 at17
-        d17 = pre (Scalar.g-room U H A W E _ 8 Y.tyUnit (Scalar.room-sc U H A W Row.sUnit)) (pre (Lifetime.g-end U H A W E _ 2 refl) (pre (Relend.g-back-sl U H A W E S.row _ 10 1 0 2 y2 y4
-            l0 (λ x. x) (λ x. x) (as-is r12) (as-is (Relend.mslice-owed S.row y2 0 2 l0)) refl refl) (pre (Lifetime.g-forget U H A W E _ 2 Row.dead refl) (pre (begin 3 _) (seq
-            (Relend.t-sl-relend U H A W E S.row C _ 1 11 0 3 y2 y4 l0 0 (λ x. x) (as-is r3) (gone y4) refl tt refl refl refl λ b o. tt) (seq (Relend.t-sl-aggregate U H A W E S.row C
-            (Relend.asMut S.row) _ 11 12 3 y4 y4 (λ x. x) (Scalar.oFld 1 (Y.field 1 ∷ []) (Y.tyInt Y.w64) 8 λ v. Shared.lenV (v .0)) (as-is r9) (gone y1)
-            (Relend.reads-owed-len U H A W S.row y2 0 3 l0 8 refl, refl) refl refl λ b o k. tt) (seq (Plain.t-call-plain U H A W C 1 ps·2 r·1 (cl .4) (cl .5) "samples::store" (known .2) E (λ
-            pos β. β) _ (record { pos = 12; ty = y4; ref = λ x. x }, (Num.vAt 3 λ x. x, (record { pos = 4; st = []; d = 0; at = λ x. x }, tt))) 8 (3 ∷ []) (Call.sub-id U H A W _)
+        d17 = pre (Typed.pass T13 T14 s12) (Scalar.g-room U H A W E _ 8 Y.tyUnit (Scalar.room-sc U H A W Row.sUnit)) (pre (λ Ψ. Ψ) (Lifetime.g-end U H A W E _ 2 refl) (pre (Typed.both s14)
+            (Relend.g-back-sl U H A W E S.row _ 10 1 0 2 y2 y4 l0 (λ x. x) (λ x. x) (as-is r12) (as-is (Relend.mslice-owed S.row y2 0 2 l0)) refl refl) (pre (λ Ψ. Ψ) (Lifetime.g-forget U H A
+            W E _ 2 Row.dead refl) (pre (λ Ψ. Ψ) (begin 3 _) (seq (Typed.give s17) (Relend.t-sl-relend U H A W E S.row C _ 1 11 0 3 y2 y4 l0 0 (λ x. x) (as-is r3) (gone y4) refl tt refl refl
+            refl λ b o. tt) (seq (Typed.ask s18) (Relend.t-sl-aggregate U H A W E S.row C (Relend.asMut S.row) _ 11 12 3 y4 y4 (λ x. x) (Scalar.oFld 1 (Y.field 1 ∷ []) (Y.tyInt Y.w64) 8 λ v.
+            Shared.lenV (v .0)) (as-is r9) (gone y1) (Relend.reads-owed-len U H A W S.row y2 0 3 l0 8 refl, refl) refl refl λ b o k. tt) (seq (Typed.both s19) (Plain.t-call-plain U H A W C 1
+            ps·2 r·1 (cl .4) (cl .5) "samples::store" (known .2) E (λ pos β. β) _
+            (record { pos = 12; ty = y4; ref = λ x. x }, (Num.vAt 3 λ x. x, (record { pos = 4; st = []; d = 0; at = λ x. x }, tt))) 8 (3 ∷ []) (Call.sub-id U H A W _)
             (as-is r11, Mut.reads-mslice U H A W S.row y4 3, refl, ((Scalar.reads-sc U H A W (Row.sInt Y.w64), refl), ((S.yields U H A W, refl), tt))) (gone Y.tyUnit) (tt, tt) refl)
             d9)))))))
 
-        d25 : Typed.Typed U H A C E (lives (Row.off ∷ Row.alive ∷ Row.off ∷ Row.off ∷ []) (on 1 (Reshare.mslice-owedS S.row y2 0 1 l0) T5)) b17 Δ0 at25
-        d25 = pre (Scalar.g-room U H A W E _ 7 y0 (Shared.room-sslice U H A W S.row y3 1)) (pre (Lifetime.g-end U H A W E _ 1 refl) (pre (Reshare.g-back-sl-shr U H A W E S.row _ 1 0 1 y2 l0
-            (λ x. x) (as-is (Reshare.mslice-owedS S.row y2 0 1 l0)) refl refl) (pre (Lifetime.g-forget U H A W E _ 1 Row.dead refl) (pre (begin 2 _) (seq (Relend.t-sl-relend U H A W E S.row
-            C _ 1 9 0 2 y2 y4 l0 0 (λ x. x) (as-is r3) (gone y4) refl tt refl refl refl λ b o. tt) (seq (Relend.t-sl-aggregate U H A W E S.row C (Relend.asMut S.row) _ 9 10 2 y4 y4 (λ x. x)
-            (Scalar.oFld 1 (Y.field 1 ∷ []) (Y.tyInt Y.w64) 8 λ v. Shared.lenV (v .0)) (as-is r8) (gone y1) (Relend.reads-owed-len U H A W S.row y2 0 2 l0 8 refl, refl) refl refl λ b o k.
-            tt) (seq (Plain.t-call-plain U H A W C 1 ps·1 r·1 (cl .2) (cl .3) "samples::free" (known .1) E (λ pos β. β) _ (record { pos = 10; ty = y4; ref = λ x. x }, (Num.vAt 2 λ x. x, tt))
-            8 (2 ∷ []) (Call.sub-id U H A W _) (as-is r10, Mut.reads-mslice U H A W S.row y4 2, refl, ((Scalar.reads-sc U H A W (Row.sInt Y.w64), refl), tt)) (gone Y.tyUnit) (tt, tt) refl)
-            d17)))))))
+        d25 : Typed.Typed U H A C E (lives (Row.off ∷ Row.alive ∷ Row.off ∷ Row.off ∷ []) (on 7 r7 (on 5 S.here (on 1 (Reshare.mslice-owedS S.row y2 0 1 l0) T0)))) b17 Δ0 at25
+        d25 = pre (Typed.pass T5 T6 s4) (Scalar.g-room U H A W E _ 7 y0 (Shared.room-sslice U H A W S.row y3 1)) (pre (λ Ψ. Ψ) (Lifetime.g-end U H A W E _ 1 refl) (pre (Typed.pass T6 T8 s6)
+            (Reshare.g-back-sl-shr U H A W E S.row _ 1 0 1 y2 l0 (λ x. x) (as-is (Reshare.mslice-owedS S.row y2 0 1 l0)) refl refl) (pre (λ Ψ. Ψ) (Lifetime.g-forget U H A W E _ 1 Row.dead
+            refl) (pre (λ Ψ. Ψ) (begin 2 _) (seq (Typed.give s9) (Relend.t-sl-relend U H A W E S.row C _ 1 9 0 2 y2 y4 l0 0 (λ x. x) (as-is r3) (gone y4) refl tt refl refl refl λ b o. tt)
+            (seq (Typed.ask s10) (Relend.t-sl-aggregate U H A W E S.row C (Relend.asMut S.row) _ 9 10 2 y4 y4 (λ x. x) (Scalar.oFld 1 (Y.field 1 ∷ []) (Y.tyInt Y.w64) 8 λ v. Shared.lenV (v
+            .0)) (as-is r8) (gone y1) (Relend.reads-owed-len U H A W S.row y2 0 2 l0 8 refl, refl) refl refl λ b o k. tt) (seq (Typed.both s11) (Plain.t-call-plain U H A W C 1 ps·1 r·1 (cl
+            .2) (cl .3) "samples::free" (known .1) E (λ pos β. β) _ (record { pos = 10; ty = y4; ref = λ x. x }, (Num.vAt 2 λ x. x, tt)) 8 (2 ∷ []) (Call.sub-id U H A W _)
+            (as-is r10, Mut.reads-mslice U H A W S.row y4 2, refl, ((Scalar.reads-sc U H A W (Row.sInt Y.w64), refl), tt)) (gone Y.tyUnit) (tt, tt) refl) d17)))))))
 
         d29 : Typed.Typed U H A C E (lives z0 T0) b20 Δ0 at29
-        d29 = pre (begin 1 _) (seq (Reshare.t-sl-reshare U H A W E S.row C _ 1 6 0 1 y2 y3 l0 0 (λ x. x) (as-is r3) (gone y3) refl tt refl refl refl λ b o. tt) (seq (Relend.t-sl-aggregate U
-            H A W E S.row C (Relend.asShr S.row) _ 6 7 1 y3 y3 (λ x. x) (Scalar.oFld 1 (Y.field 1 ∷ []) (Y.tyInt Y.w64) 8 λ v. Shared.lenV (v .0)) (as-is r6) (gone y0)
-            (Reshare.reads-owedS-len U H A W S.row y2 0 1 l0 8 refl, refl) refl refl λ b o k. tt) (seq (Plain.t-call-plain U H A W C 1 ps·0 r·0 (cl .0) (cl .1) "samples::peek" (known .0) E
-            (λ pos β. β) _ (record { pos = 7; ty = y3; ref = λ x. x }, (Num.vAt 2 λ x. x, tt)) 5 (1 ∷ []) (Call.sub-id U H A W _)
+        d29 = pre (λ Ψ. Ψ) (begin 1 _) (seq (Typed.give s1) (Reshare.t-sl-reshare U H A W E S.row C _ 1 6 0 1 y2 y3 l0 0 (λ x. x) (as-is r3) (gone y3) refl tt refl refl refl λ b o. tt) (seq
+            (Typed.ask s2) (Relend.t-sl-aggregate U H A W E S.row C (Relend.asShr S.row) _ 6 7 1 y3 y3 (λ x. x) (Scalar.oFld 1 (Y.field 1 ∷ []) (Y.tyInt Y.w64) 8 λ v. Shared.lenV (v .0))
+            (as-is r6) (gone y0) (Reshare.reads-owedS-len U H A W S.row y2 0 1 l0 8 refl, refl) refl refl λ b o k. tt) (seq (Typed.both s3) (Plain.t-call-plain U H A W C 1 ps·0 r·0 (cl .0)
+            (cl .1) "samples::peek" (known .0) E (λ pos β. β) _ (record { pos = 7; ty = y3; ref = λ x. x }, (Num.vAt 2 λ x. x, tt)) 5 (1 ∷ []) (Call.sub-id U H A W _)
             (ShrSlice.spares-sslice U H A W S.row y3 1, Shared.reads-sslice U H A W S.row y3 1, refl, ((Scalar.reads-sc U H A W (Row.sInt Y.w64), refl), tt)) (gone S.ty) (tt, tt) refl)
             d25)))
 

@@ -175,7 +175,7 @@ abbrev T11 : Row.Cx
 T11 = on 9 r6 (on 1 r0 T0)
 
 abbrev T12 : Row.Cx
-T12 = on 9 r8 (on 7 L.hunit T11)
+T12 = on 9 r8 (on 7 L.hunit (on 1 r0 T0))
 
 abbrev T13 : Row.Cx
 T13 = on 9 r8 T11
@@ -187,7 +187,7 @@ abbrev T20 : Row.Cx
 T20 = on 12 r7 (on 1 r1 T0)
 
 abbrev T21 : Row.Cx
-T21 = on 12 r8 (on 10 L.hunit T20)
+T21 = on 12 r8 (on 10 L.hunit (on 1 r1 T0))
 
 abbrev T22 : Row.Cx
 T22 = on 12 r8 T20
@@ -323,13 +323,13 @@ module _ (cl : Claims) where
         abbrev E : Wp.Env U H
         E = Frame.EnvOf U H (Kinds.tyR r ∷ (Enter.tysP ps xs)) bs
 
-        pre : {Γ Γ₁ : Row.Cx} {b : Y.Body} {Δ : Typed.Outs} {φ : Typed.Tf Γ Γ₁} {Φ : Typed.TF Γ₁ Δ} → Typed.Ghost U H A E Γ Γ₁ φ → Typed.Typed U H A C E Γ₁ b Δ Φ → Typed.Typed U H A C E Γ b
+        pre : {Γ Γ₁ : Row.Cx} {b : Y.Body} {Δ : Typed.Outs} {Φ : Typed.TF Γ₁ Δ} (φ : Typed.Tf Γ Γ₁) → Typed.Ghost U H A E Γ Γ₁ φ → Typed.Typed U H A C E Γ₁ b Δ Φ → Typed.Typed U H A C E Γ b
             Δ (λ Ψ. φ (Φ Ψ))
-        pre = Typed.g-pre U H A W C E _ _ _ _ _ _
+        pre φ = Typed.g-pre U H A W C E _ _ _ _ φ _
 
-        seq : {Γ Γ₁ : Row.Cx} {a b : Y.Body} {Δ : Typed.Outs} {φ : Typed.Tf Γ Γ₁} {Φ : Typed.TF Γ₁ Δ} → Typed.Stmt U H A C E Γ a Γ₁ φ → Typed.Typed U H A C E Γ₁ b Δ Φ → Typed.Typed U H A C E
+        seq : {Γ Γ₁ : Row.Cx} {a b : Y.Body} {Δ : Typed.Outs} {Φ : Typed.TF Γ₁ Δ} (φ : Typed.Tf Γ Γ₁) → Typed.Stmt U H A C E Γ a Γ₁ φ → Typed.Typed U H A C E Γ₁ b Δ Φ → Typed.Typed U H A C E
             Γ (Y.seq a b) Δ (λ Ψ. φ (Φ Ψ))
-        seq = Typed.s-seq U H A W C E _ _ _ _ _ _ _
+        seq φ = Typed.s-seq U H A W C E _ _ _ _ _ φ _
 
         post : {Γ Γ₁ Γ₂ : Row.Cx} {a : Y.Body} {φ : Typed.Tf Γ Γ₁} {φ′ : Typed.Tf Γ₁ Γ₂} → Typed.Stmt U H A C E Γ a Γ₁ φ → Typed.Ghost U H A E Γ₁ Γ₂ φ′ → Typed.Stmt U H A C E Γ a Γ₂ (λ Ψ. φ
             (φ′ Ψ))
@@ -348,48 +348,48 @@ module _ (cl : Claims) where
         room-sc = Scalar.room-sc U H A W
 
         d4 : Typed.Typed U H A C E G7 b7 Δ1 at4
-        d4 = pre (Scalar.g-room U H A W E _ 6 Y.tyBool (room-sc Row.sBool)) (pre (begin 1 _) (seq (Relend.t-sl-relend U H A W E S.row C _ 1 8 0 1 y1 y2 l0 0 (λ x. x) (as-is r2) (gone y2)
-            refl tt refl refl refl λ b o. tt) (seq (Relend.t-sl-aggregate U H A W E S.row C (Relend.asMut S.row) _ 8 9 1 y2 y2 (λ x. x) (Scalar.oFld 1 (Y.field 1 ∷ []) (Y.tyInt Y.w64) 8 λ v.
-            Shared.lenV (v .0)) (as-is r4) (gone y0) (Relend.reads-owed-len U H A W S.row y1 0 1 l0 8 refl, refl) refl refl λ b o k. tt) (Typed.s-typed U H A W C E _ b5 Δ1 (λ Ψ. Typed.both
-            s9 (Typed.pass T12 T13 s10 (Typed.both s12 Ψ))) tt (post (post (post (post (Plain.t-call-plain U H A W C 1 ps·0 r·0 (cl .0) (cl .1) "samples::clear" (known .0) E (λ pos β. β) _
-            (record { pos = 9; ty = y2; ref = λ x. x }, (Num.vAt 2 λ x. x, tt)) 7 (1 ∷ []) (Call.sub-id U H A W _)
+        d4 = pre (Typed.pass T7 T0 s5) (Scalar.g-room U H A W E _ 6 Y.tyBool (room-sc Row.sBool)) (pre (λ Ψ. Ψ) (begin 1 _) (seq (Typed.give s7) (Relend.t-sl-relend U H A W E S.row C _ 1 8 0
+            1 y1 y2 l0 0 (λ x. x) (as-is r2) (gone y2) refl tt refl refl refl λ b o. tt) (seq (Typed.ask s8) (Relend.t-sl-aggregate U H A W E S.row C (Relend.asMut S.row) _ 8 9 1 y2 y2 (λ x.
+            x) (Scalar.oFld 1 (Y.field 1 ∷ []) (Y.tyInt Y.w64) 8 λ v. Shared.lenV (v .0)) (as-is r4) (gone y0) (Relend.reads-owed-len U H A W S.row y1 0 1 l0 8 refl, refl) refl refl λ b o k.
+            tt) (Typed.s-typed U H A W C E _ b5 Δ1 (λ Ψ. Typed.both s9 (Typed.pass T12 T13 s10 (Typed.both s12 Ψ))) tt (post (post (post (post (Plain.t-call-plain U H A W C 1 ps·0 r·0 (cl
+            .0) (cl .1) "samples::clear" (known .0) E (λ pos β. β) _ (record { pos = 9; ty = y2; ref = λ x. x }, (Num.vAt 2 λ x. x, tt)) 7 (1 ∷ []) (Call.sub-id U H A W _)
             (as-is r6, Mut.reads-mslice U H A W S.row y2 1, refl, ((Scalar.reads-sc U H A W (Row.sInt Y.w64), refl), tt)) (gone Y.tyUnit) (tt, tt) refl) (Scalar.g-room U H A W E _ 7 Y.tyUnit
             (room-sc Row.sUnit))) (Lifetime.g-end U H A W E _ 1 refl)) (Relend.g-back-sl U H A W E S.row _ 9 1 0 1 y1 y2 l0 (λ x. x) (λ x. x) (as-is r8) (as-is (Relend.mslice-owed S.row y1 0
             1 l0)) refl refl)) (Lifetime.g-forget U H A W E _ 1 Row.dead refl))))))
 
         d9 : Typed.Typed U H A C E G7 b12 Δ1 at9
-        d9 = pre (Scalar.g-room U H A W E _ 6 Y.tyBool (room-sc Row.sBool)) (pre (begin 2 _) (seq (Relend.t-sl-relend U H A W E S.row C _ 1 11 0 2 y1 y2 l0 0 (λ x. x) (as-is r2) (gone y2)
-            refl tt refl refl refl λ b o. tt) (seq (Relend.t-sl-aggregate U H A W E S.row C (Relend.asMut S.row) _ 11 12 2 y2 y2 (λ x. x) (Scalar.oFld 1 (Y.field 1 ∷ []) (Y.tyInt Y.w64) 8 λ
-            v. Shared.lenV (v .0)) (as-is r5) (gone y0) (Relend.reads-owed-len U H A W S.row y1 0 2 l0 8 refl, refl) refl refl λ b o k. tt) (Typed.s-typed U H A W C E _ b10 Δ1 (λ Ψ.
-            Typed.both s18 (Typed.pass T21 T22 s19 (Typed.both s21 Ψ))) tt (post (post (post (post (Plain.t-call-plain U H A W C 1 ps·0 r·0 (cl .2) (cl .3) "samples::mark" (known .1) E (λ
-            pos β. β) _ (record { pos = 12; ty = y2; ref = λ x. x }, (Num.vAt 2 λ x. x, tt)) 10 (2 ∷ []) (Call.sub-id U H A W _)
+        d9 = pre (Typed.pass T7 T0 s5) (Scalar.g-room U H A W E _ 6 Y.tyBool (room-sc Row.sBool)) (pre (λ Ψ. Ψ) (begin 2 _) (seq (Typed.give s16) (Relend.t-sl-relend U H A W E S.row C _ 1 11
+            0 2 y1 y2 l0 0 (λ x. x) (as-is r2) (gone y2) refl tt refl refl refl λ b o. tt) (seq (Typed.ask s17) (Relend.t-sl-aggregate U H A W E S.row C (Relend.asMut S.row) _ 11 12 2 y2 y2
+            (λ x. x) (Scalar.oFld 1 (Y.field 1 ∷ []) (Y.tyInt Y.w64) 8 λ v. Shared.lenV (v .0)) (as-is r5) (gone y0) (Relend.reads-owed-len U H A W S.row y1 0 2 l0 8 refl, refl) refl refl λ
+            b o k. tt) (Typed.s-typed U H A W C E _ b10 Δ1 (λ Ψ. Typed.both s18 (Typed.pass T21 T22 s19 (Typed.both s21 Ψ))) tt (post (post (post (post (Plain.t-call-plain U H A W C 1 ps·0
+            r·0 (cl .2) (cl .3) "samples::mark" (known .1) E (λ pos β. β) _ (record { pos = 12; ty = y2; ref = λ x. x }, (Num.vAt 2 λ x. x, tt)) 10 (2 ∷ []) (Call.sub-id U H A W _)
             (as-is r7, Mut.reads-mslice U H A W S.row y2 2, refl, ((Scalar.reads-sc U H A W (Row.sInt Y.w64), refl), tt)) (gone Y.tyUnit) (tt, tt) refl) (Scalar.g-room U H A W E _ 10
             Y.tyUnit (room-sc Row.sUnit))) (Lifetime.g-end U H A W E _ 2 refl)) (Relend.g-back-sl U H A W E S.row _ 12 1 0 2 y1 y2 l0 (λ x. x) (λ x. x) (as-is r8) (as-is (Relend.mslice-owed
             S.row y1 0 2 l0)) refl refl)) (Lifetime.g-forget U H A W E _ 2 Row.dead refl))))))
 
         d12 : Typed.Typed U H A C E G5 b14 Δ1 at12
-        d12 = pre (Scalar.g-room U H A W E _ 5 Y.tyBool (room-sc Row.sBool)) (seq (Scalar.t-use U H A W E C _ (Scalar.oAt 3 Y.tyBool (Row.valS Row.sBool)) 6 L.hbool Y.tyBool (Row.valS
-            Row.sBool) (Row.sBool .of) (Scalar.reads-sc U H A W Row.sBool, refl) (gone Y.tyBool) (Scalar.holds-sc U H A W Row.sBool) refl (λ u. refl) λ u. tt) (Scalar.t-cond U H A W E C _ 6
-            (λ x. x) b7 b12 Δ1 at4 at9 (Scalar.reads-sc U H A W Row.sBool) refl d4 d9))
+        d12 = pre (Typed.pass T5 T0 s3) (Scalar.g-room U H A W E _ 5 Y.tyBool (room-sc Row.sBool)) (seq (Typed.pass T0 T7 s4) (Scalar.t-use U H A W E C _ (Scalar.oAt 3 Y.tyBool (Row.valS
+            Row.sBool)) 6 L.hbool Y.tyBool (Row.valS Row.sBool) (Row.sBool .of) (Scalar.reads-sc U H A W Row.sBool, refl) (gone Y.tyBool) (Scalar.holds-sc U H A W Row.sBool) refl (λ u. refl)
+            λ u. tt) (Scalar.t-cond U H A W E C _ 6 (λ x. x) b7 b12 Δ1 at4 at9 (Scalar.reads-sc U H A W Row.sBool) refl d4 d9))
 
         d14 : Typed.Typed U H A C E G5 b15 Δ1 at14
-        d14 = pre (Scalar.g-room U H A W E _ 5 Y.tyBool (room-sc Row.sBool)) (Typed.t-skip U H A W C E Δ1 tt)
+        d14 = pre (Typed.pass T5 T0 s3) (Scalar.g-room U H A W E _ 5 Y.tyBool (room-sc Row.sBool)) (Typed.t-skip U H A W C E Δ1 tt)
 
         d16 : Typed.Typed U H A C E (lives z0 T3) b16 Δ1 at16
-        d16 = pre (Scalar.g-room U H A W E _ 4 (Y.tyInt Y.w64) (room-sc (Row.sInt Y.w64))) (Scalar.t-cond U H A W E C _ 5 (λ x. x) b14 b15 Δ1 at12 at14 (Scalar.reads-sc U H A W Row.sBool)
-            refl d12 d14)
+        d16 = pre (Typed.pass T3 T5 s2) (Scalar.g-room U H A W E _ 4 (Y.tyInt Y.w64) (room-sc (Row.sInt Y.w64))) (Scalar.t-cond U H A W E C _ 5 (λ x. x) b14 b15 Δ1 at12 at14 (Scalar.reads-sc
+            U H A W Row.sBool) refl d12 d14)
 
         d20 : Typed.Typed U H A C E G0 b19 Δ0 at20
-        d20 = seq (Scalar.t-use U H A W E C _ Scalar.oUnit 0 L.hunit Y.tyUnit (Row.valS Row.sUnit) (Row.sUnit .of) tt (gone Y.tyUnit) (Scalar.holds-sc U H A W Row.sUnit) refl (λ u. refl) λ
-            u. tt) (pre (Scalar.g-room U H A W E _ 2 (Y.tyInt Y.w64) (room-sc (Row.sInt Y.w64))) (pre (Scalar.g-room U H A W E _ 3 Y.tyBool (room-sc Row.sBool)) (Typed.t-return U H A W C E
-            Δ0 tt)))
+        d20 = seq (Typed.pass T0 T27 s24) (Scalar.t-use U H A W E C _ Scalar.oUnit 0 L.hunit Y.tyUnit (Row.valS Row.sUnit) (Row.sUnit .of) tt (gone Y.tyUnit) (Scalar.holds-sc U H A W
+            Row.sUnit) refl (λ u. refl) λ u. tt) (pre (Typed.pass T27 T28 s25) (Scalar.g-room U H A W E _ 2 (Y.tyInt Y.w64) (room-sc (Row.sInt Y.w64))) (pre (Typed.pass T28 T1 s26)
+            (Scalar.g-room U H A W E _ 3 Y.tyBool (room-sc Row.sBool)) (Typed.t-return U H A W C E Δ0 tt)))
 
         d23 : Typed.Typed U H A C E G0 b22 Δ0 at23
-        d23 = seq (Scalar.t-use U H A W E C _ (Scalar.oFld 1 (Y.field 1 ∷ []) (Y.tyInt Y.w64) 8 Shared.lenV) 4 L.h64 (Y.tyInt Y.w64) (Row.valS (Row.sInt Y.w64)) (Row.sInt Y.w64 .of)
-            (Mut.reads-mslice-len U H A W S.row y1 0 8 refl, refl) (gone (Y.tyInt Y.w64)) (Scalar.holds-sc U H A W (Row.sInt Y.w64)) refl (λ u. refl) λ u. tt) (seq (Scalar.t-op2 U H A W E C
-            _ (Y.lt Y.unsigned) (Scalar.oAt 2 (Y.tyInt Y.w64) (Row.valS (Row.sInt Y.w64))) (Scalar.oAt 4 (Y.tyInt Y.w64) (Row.valS (Row.sInt Y.w64))) 5 L.hbool Y.tyBool (Row.valS Row.sBool)
-            (Row.sBool .of) (Scalar.reads-sc U H A W (Row.sInt Y.w64), refl) (Scalar.reads-sc U H A W (Row.sInt Y.w64), refl) (gone Y.tyBool) (Scalar.holds-sc U H A W Row.sBool) refl (λ u.
-            refl) λ u. tt) (Typed.t-seq U H A W C E _ _ b16 b19 Δ0 at16 at20 d16 d20))
+        d23 = seq (Typed.pass T0 T2 s0) (Scalar.t-use U H A W E C _ (Scalar.oFld 1 (Y.field 1 ∷ []) (Y.tyInt Y.w64) 8 Shared.lenV) 4 L.h64 (Y.tyInt Y.w64) (Row.valS (Row.sInt Y.w64))
+            (Row.sInt Y.w64 .of) (Mut.reads-mslice-len U H A W S.row y1 0 8 refl, refl) (gone (Y.tyInt Y.w64)) (Scalar.holds-sc U H A W (Row.sInt Y.w64)) refl (λ u. refl) λ u. tt) (seq
+            (Typed.ask s1) (Scalar.t-op2 U H A W E C _ (Y.lt Y.unsigned) (Scalar.oAt 2 (Y.tyInt Y.w64) (Row.valS (Row.sInt Y.w64))) (Scalar.oAt 4 (Y.tyInt Y.w64) (Row.valS (Row.sInt Y.w64)))
+            5 L.hbool Y.tyBool (Row.valS Row.sBool) (Row.sBool .of) (Scalar.reads-sc U H A W (Row.sInt Y.w64), refl) (Scalar.reads-sc U H A W (Row.sInt Y.w64), refl) (gone Y.tyBool)
+            (Scalar.holds-sc U H A W Row.sBool) refl (λ u. refl) λ u. tt) (Typed.t-seq U H A W C E _ _ b16 b19 Δ0 at16 at20 d16 d20))
 
         pub typed : Typed.Typed U H A C E (Function.Γin 1 ps r xs m κs qs) b22 (Function.Δret 1 ps r xs m κs qs) Φ
         typed = d23

@@ -175,6 +175,9 @@ r9 = Rows'.mref-owed (Array'.Array L.u64 928) y1 0 5 Row.off
 abbrev r10 : Row.Row
 r10 = Rows'.mref-owed (Array'.Array L.u64 928) y1 0 7 Row.off
 
+abbrev r11 : Row.Row
+r11 = Rows'.mref-owed (Array'.Array L.u64 928) y1 0 9 Row.off
+
 abbrev r12 : Row.Row
 r12 = Rows'.mref (Array'.Array L.u64 6912) y0 4
 
@@ -252,6 +255,9 @@ r36 = Rows'.any-gone y9
 
 abbrev r37 : Row.Row
 r37 = Rows'.any-gone y8
+
+abbrev r38 : Row.Row
+r38 = Rows'.sslice S.row y12 11
 
 abbrev r39 : Row.Row
 r39 = Rows'.sslice S.row y12 14
@@ -518,6 +524,186 @@ abbrev t4 : List.List Row.Entry
 t4 = (0, r58) ∷ (1, r46) ∷ (2, r13) ∷ (3, r35) ∷ (4, r34) ∷ (5, r14) ∷ (6, r12) ∷ (7, r49) ∷ (8, L.g64) ∷ (9, r63) ∷ (10, r47) ∷ (11, r62) ∷ (12, r60) ∷ (13, L.g64) ∷ (14, r57) ∷ (15, L.g64)
     ∷ []
 
+abbrev t11 : List.List Row.Entry
+t11 = (0, r58) ∷ (1, r46) ∷ (2, r13) ∷ (3, r35) ∷ (4, r34) ∷ (5, r14) ∷ (6, r12) ∷ (7, r49) ∷ (8, L.h64) ∷ (9, r52) ∷ (10, r64) ∷ (11, r62) ∷ (12, r60) ∷ (13, L.g64) ∷ (14, r57) ∷
+    (15, L.g64) ∷ []
+
+abbrev t13 : List.List Row.Entry
+t13 = (16, r57) ∷ (17, L.g64) ∷ (18, L.gbool) ∷ (19, r48) ∷ (20, r31) ∷ (21, r44) ∷ (22, r36) ∷ (23, r31) ∷ (24, r44) ∷ (25, r36) ∷ (26, r31) ∷ (27, r32) ∷ (28, r45) ∷ (29, r37) ∷ (30, r33)
+    ∷ (31, r32) ∷ []
+
+abbrev t19 : List.List Row.Entry
+t19 = (0, r58) ∷ (1, r46) ∷ (2, r9) ∷ (3, r35) ∷ (4, r34) ∷ (5, r14) ∷ (6, r12) ∷ (7, r59) ∷ (8, L.h64) ∷ (9, r63) ∷ (10, r47) ∷ (11, r51) ∷ (12, r60) ∷ (13, L.g64) ∷ (14, r57) ∷ (15, L.g64)
+    ∷ []
+
+abbrev t20 : List.List Row.Entry
+t20 = (16, r57) ∷ (17, L.g64) ∷ (18, L.gbool) ∷ (19, r58) ∷ (20, r20) ∷ (21, r44) ∷ (22, r36) ∷ (23, r31) ∷ (24, r44) ∷ (25, r36) ∷ (26, r31) ∷ (27, r32) ∷ (28, r45) ∷ (29, r37) ∷ (30, r33)
+    ∷ (31, r32) ∷ []
+
+abbrev t21 : List.List Row.Entry
+t21 = (0, r58) ∷ (1, r46) ∷ (2, r9) ∷ (3, r29) ∷ (4, r34) ∷ (5, r14) ∷ (6, r12) ∷ (7, r59) ∷ (8, L.h64) ∷ (9, r63) ∷ (10, r47) ∷ (11, r51) ∷ (12, r60) ∷ (13, L.g64) ∷ (14, r57) ∷ (15, L.g64)
+    ∷ []
+
+abbrev t24 : List.List Row.Entry
+t24 = (16, r57) ∷ (17, L.g64) ∷ (18, L.gbool) ∷ (19, r48) ∷ (20, r22) ∷ (21, r44) ∷ (22, r43) ∷ (23, r31) ∷ (24, r44) ∷ (25, r36) ∷ (26, r31) ∷ (27, r32) ∷ (28, r45) ∷ (29, r37) ∷ (30, r33)
+    ∷ (31, r32) ∷ []
+
+abbrev t27 : List.List Row.Entry
+t27 = (0, r58) ∷ (1, r61) ∷ (2, r13) ∷ (3, r29) ∷ (4, r34) ∷ (5, r14) ∷ (6, r12) ∷ (7, r59) ∷ (8, L.h64) ∷ (9, r63) ∷ (10, r47) ∷ (11, r62) ∷ (12, r60) ∷ (13, L.g64) ∷ (14, r57) ∷
+    (15, L.g64) ∷ []
+
+abbrev t28 : List.List Row.Entry
+t28 = (16, r57) ∷ (17, L.g64) ∷ (18, L.gbool) ∷ (19, r48) ∷ (20, r31) ∷ (21, r44) ∷ (22, r43) ∷ (23, r31) ∷ (24, r44) ∷ (25, r36) ∷ (26, r31) ∷ (27, r32) ∷ (28, r45) ∷ (29, r37) ∷ (30, r33)
+    ∷ (31, r32) ∷ []
+
+abbrev t32 : List.List Row.Entry
+t32 = (0, r58) ∷ (1, r46) ∷ (2, r10) ∷ (3, r35) ∷ (4, r34) ∷ (5, r14) ∷ (6, r12) ∷ (7, r59) ∷ (8, L.h64) ∷ (9, r63) ∷ (10, r64) ∷ (11, r62) ∷ (12, r50) ∷ (13, L.g64) ∷ (14, r57) ∷
+    (15, L.g64) ∷ []
+
+abbrev t33 : List.List Row.Entry
+t33 = (16, r57) ∷ (17, L.g64) ∷ (18, L.gbool) ∷ (19, r58) ∷ (20, r31) ∷ (21, r44) ∷ (22, r36) ∷ (23, r21) ∷ (24, r44) ∷ (25, r36) ∷ (26, r31) ∷ (27, r32) ∷ (28, r45) ∷ (29, r37) ∷ (30, r33)
+    ∷ (31, r32) ∷ []
+
+abbrev t34 : List.List Row.Entry
+t34 = (0, r58) ∷ (1, r46) ∷ (2, r10) ∷ (3, r30) ∷ (4, r34) ∷ (5, r14) ∷ (6, r12) ∷ (7, r59) ∷ (8, L.h64) ∷ (9, r63) ∷ (10, r64) ∷ (11, r62) ∷ (12, r50) ∷ (13, L.g64) ∷ (14, r57) ∷
+    (15, L.g64) ∷ []
+
+abbrev t37 : List.List Row.Entry
+t37 = (16, r57) ∷ (17, L.g64) ∷ (18, L.gbool) ∷ (19, r48) ∷ (20, r31) ∷ (21, r44) ∷ (22, r36) ∷ (23, r22) ∷ (24, r44) ∷ (25, r43) ∷ (26, r31) ∷ (27, r32) ∷ (28, r45) ∷ (29, r37) ∷ (30, r33)
+    ∷ (31, r32) ∷ []
+
+abbrev t47 : List.List Row.Entry
+t47 = (0, r58) ∷ (1, r46) ∷ (2, r11) ∷ (3, r35) ∷ (4, r34) ∷ (5, r14) ∷ (6, r12) ∷ (7, r59) ∷ (8, L.h64) ∷ (9, r63) ∷ (10, r47) ∷ (11, r62) ∷ (12, r60) ∷ (13, L.h64) ∷ (14, r57) ∷
+    (15, L.g64) ∷ []
+
+abbrev t48 : List.List Row.Entry
+t48 = (16, r57) ∷ (17, L.g64) ∷ (18, L.gbool) ∷ (19, r58) ∷ (20, r31) ∷ (21, r44) ∷ (22, r36) ∷ (23, r31) ∷ (24, r44) ∷ (25, r36) ∷ (26, Rows'.mref (Array'.Array L.u64 928) y4 9) ∷ (27, r32)
+    ∷ (28, r45) ∷ (29, r37) ∷ (30, r33) ∷ (31, r32) ∷ []
+
+abbrev t49 : List.List Row.Entry
+t49 = (16, r57) ∷ (17, L.g64) ∷ (18, L.gbool) ∷ (19, r48) ∷ (20, r31) ∷ (21, r44) ∷ (22, r36) ∷ (23, r31) ∷ (24, r44) ∷ (25, r36) ∷ (26, r22) ∷ (27, r32) ∷ (28, r45) ∷ (29, r37) ∷ (30, r33)
+    ∷ (31, r32) ∷ []
+
+abbrev t51 : List.List Row.Entry
+t51 = (0, r58) ∷ (1, r61) ∷ (2, r11) ∷ (3, r35) ∷ (4, r34) ∷ (5, r14) ∷ (6, r12) ∷ (7, r59) ∷ (8, L.h64) ∷ (9, r63) ∷ (10, r47) ∷ (11, r62) ∷ (12, r60) ∷ (13, L.g64) ∷ (14, r57) ∷
+    (15, L.g64) ∷ []
+
+abbrev t56 : List.List Row.Entry
+t56 = (0, r58) ∷ (1, r46) ∷ (2, r0) ∷ (3, r35) ∷ (4, r34) ∷ (5, r14) ∷ (6, r12) ∷ (7, r59) ∷ (8, L.h64) ∷ (9, r63) ∷ (10, r47) ∷ (11, r62) ∷ (12, r60) ∷ (13, L.g64) ∷ (14, r42) ∷ (15, L.g64)
+    ∷ []
+
+abbrev t57 : List.List Row.Entry
+t57 = (16, r57) ∷ (17, L.g64) ∷ (18, L.gbool) ∷ (19, r58) ∷ (20, r31) ∷ (21, r44) ∷ (22, r36) ∷ (23, r31) ∷ (24, r44) ∷ (25, r36) ∷ (26, r31) ∷ (27, r15) ∷ (28, r45) ∷ (29, r37) ∷ (30, r33)
+    ∷ (31, r32) ∷ []
+
+abbrev t61 : List.List Row.Entry
+t61 = (0, r58) ∷ (1, r46) ∷ (2, r0) ∷ (3, r24) ∷ (4, r34) ∷ (5, r5) ∷ (6, r12) ∷ (7, r59) ∷ (8, L.h64) ∷ (9, r63) ∷ (10, r47) ∷ (11, r62) ∷ (12, r60) ∷ (13, L.g64) ∷ (14, r42) ∷ (15, L.g64)
+    ∷ []
+
+abbrev t62 : List.List Row.Entry
+t62 = (16, r57) ∷ (17, L.g64) ∷ (18, L.gbool) ∷ (19, r58) ∷ (20, r31) ∷ (21, r44) ∷ (22, r36) ∷ (23, r31) ∷ (24, r44) ∷ (25, r36) ∷ (26, r31) ∷ (27, r15) ∷ (28, r45) ∷ (29, r38) ∷
+    (30, Rows'.mref (Array'.Array L.u64 512) y5 12) ∷ (31, r32) ∷ []
+
+abbrev t65 : List.List Row.Entry
+t65 = (16, r57) ∷ (17, L.g64) ∷ (18, L.gbool) ∷ (19, r48) ∷ (20, r31) ∷ (21, r44) ∷ (22, r36) ∷ (23, r31) ∷ (24, r44) ∷ (25, r36) ∷ (26, r31) ∷ (27, r32) ∷ (28, r45) ∷ (29, r37) ∷ (30, r23)
+    ∷ (31, r32) ∷ []
+
+abbrev t69 : List.List Row.Entry
+t69 = (0, r58) ∷ (1, r61) ∷ (2, r13) ∷ (3, r35) ∷ (4, r34) ∷ (5, r5) ∷ (6, r12) ∷ (7, r59) ∷ (8, L.h64) ∷ (9, r63) ∷ (10, r47) ∷ (11, r62) ∷ (12, r60) ∷ (13, L.g64) ∷ (14, r57) ∷ (15, L.g64)
+    ∷ []
+
+abbrev t72 : List.List Row.Entry
+t72 = (0, r58) ∷ (1, r46) ∷ (2, r13) ∷ (3, r35) ∷ (4, r34) ∷ (5, r14) ∷ (6, r12) ∷ (7, r59) ∷ (8, L.h64) ∷ (9, r56) ∷ (10, r47) ∷ (11, r62) ∷ (12, r60) ∷ (13, L.g64) ∷ (14, r57) ∷
+    (15, L.h64) ∷ []
+
+abbrev t73 : List.List Row.Entry
+t73 = (16, r42) ∷ (17, L.g64) ∷ (18, L.gbool) ∷ (19, r58) ∷ (20, r31) ∷ (21, r44) ∷ (22, r36) ∷ (23, r31) ∷ (24, r44) ∷ (25, r36) ∷ (26, r31) ∷ (27, r32) ∷ (28, r45) ∷ (29, r37) ∷ (30, r33)
+    ∷ (31, r32) ∷ []
+
+abbrev t76 : List.List Row.Entry
+t76 = (16, r42) ∷ (17, L.g64) ∷ (18, L.gbool) ∷ (19, r58) ∷ (20, r31) ∷ (21, r44) ∷ (22, r36) ∷ (23, r31) ∷ (24, r44) ∷ (25, r36) ∷ (26, r31) ∷ (27, r32) ∷ (28, r45) ∷ (29, r37) ∷ (30, r33)
+    ∷ (31, r16) ∷ []
+
+abbrev t77 : List.List Row.Entry
+t77 = (0, r58) ∷ (1, r46) ∷ (2, r1) ∷ (3, r25) ∷ (4, r34) ∷ (5, r14) ∷ (6, r12) ∷ (7, r59) ∷ (8, L.h64) ∷ (9, r63) ∷ (10, r47) ∷ (11, r62) ∷ (12, r60) ∷ (13, L.g64) ∷ (14, r57) ∷ (15, L.h64)
+    ∷ []
+
+abbrev t78 : List.List Row.Entry
+t78 = (32, Relend.ssptr S.row y12 14) ∷ (33, r37) ∷ (34, r33) ∷ (35, r31) ∷ (36, r44) ∷ (37, r36) ∷ (38, r28) ∷ (39, r31) ∷ (40, r44) ∷ (41, r36) ∷ (42, r28) ∷ (43, r32) ∷ []
+
+abbrev t80 : List.List Row.Entry
+t80 = (0, r58) ∷ (1, r46) ∷ (2, r1) ∷ (3, r25) ∷ (4, r34) ∷ (5, r6) ∷ (6, r12) ∷ (7, r59) ∷ (8, L.h64) ∷ (9, r63) ∷ (10, r47) ∷ (11, r62) ∷ (12, r60) ∷ (13, L.g64) ∷ (14, r57) ∷ (15, L.h64)
+    ∷ []
+
+abbrev t81 : List.List Row.Entry
+t81 = (32, r45) ∷ (33, r39) ∷ (34, Rows'.mref (Array'.Array L.u64 512) y5 15) ∷ (35, r31) ∷ (36, r44) ∷ (37, r36) ∷ (38, r28) ∷ (39, r31) ∷ (40, r44) ∷ (41, r36) ∷ (42, r28) ∷ (43, r32) ∷ []
+
+abbrev t84 : List.List Row.Entry
+t84 = (16, r42) ∷ (17, L.g64) ∷ (18, L.gbool) ∷ (19, r48) ∷ (20, r31) ∷ (21, r44) ∷ (22, r36) ∷ (23, r31) ∷ (24, r44) ∷ (25, r36) ∷ (26, r31) ∷ (27, r32) ∷ (28, r45) ∷ (29, r37) ∷ (30, r33)
+    ∷ (31, r32) ∷ []
+
+abbrev t85 : List.List Row.Entry
+t85 = (32, r45) ∷ (33, r37) ∷ (34, r23) ∷ (35, r31) ∷ (36, r44) ∷ (37, r36) ∷ (38, r28) ∷ (39, r31) ∷ (40, r44) ∷ (41, r36) ∷ (42, r28) ∷ (43, r32) ∷ []
+
+abbrev t88 : List.List Row.Entry
+t88 = (0, r58) ∷ (1, r61) ∷ (2, r13) ∷ (3, r25) ∷ (4, r34) ∷ (5, r6) ∷ (6, r12) ∷ (7, r59) ∷ (8, L.h64) ∷ (9, r63) ∷ (10, r47) ∷ (11, r62) ∷ (12, r60) ∷ (13, L.g64) ∷ (14, r57) ∷ (15, L.g64)
+    ∷ []
+
+abbrev t93 : List.List Row.Entry
+t93 = (0, r58) ∷ (1, r46) ∷ (2, r7) ∷ (3, r26) ∷ (4, r34) ∷ (5, r14) ∷ (6, r12) ∷ (7, r59) ∷ (8, L.h64) ∷ (9, r63) ∷ (10, r47) ∷ (11, r62) ∷ (12, r60) ∷ (13, L.g64) ∷ (14, r57) ∷ (15, L.g64)
+    ∷ []
+
+abbrev t94 : List.List Row.Entry
+t94 = (32, r45) ∷ (33, r37) ∷ (34, r33) ∷ (35, r17) ∷ (36, Relend.msptr S.row y11 17) ∷ (37, r36) ∷ (38, r28) ∷ (39, r31) ∷ (40, r44) ∷ (41, r36) ∷ (42, r28) ∷ (43, r32) ∷ []
+
+abbrev t96 : List.List Row.Entry
+t96 = (0, r58) ∷ (1, r46) ∷ (2, r7) ∷ (3, r26) ∷ (4, r34) ∷ (5, r14) ∷ (6, r3) ∷ (7, r59) ∷ (8, L.h64) ∷ (9, r63) ∷ (10, r47) ∷ (11, r62) ∷ (12, r60) ∷ (13, L.g64) ∷ (14, r57) ∷ (15, L.g64)
+    ∷ []
+
+abbrev t97 : List.List Row.Entry
+t97 = (32, r45) ∷ (33, r37) ∷ (34, r33) ∷ (35, r17) ∷ (36, r44) ∷ (37, r40) ∷ (38, Rows'.mref (Array'.Array L.u64 6912) y3 18) ∷ (39, r31) ∷ (40, r44) ∷ (41, r36) ∷ (42, r28) ∷ (43, r32) ∷
+    []
+
+abbrev t98 : List.List Row.Entry
+t98 = (32, r45) ∷ (33, r37) ∷ (34, r33) ∷ (35, r22) ∷ (36, r44) ∷ (37, r43) ∷ (38, r18) ∷ (39, r31) ∷ (40, r44) ∷ (41, r36) ∷ (42, r28) ∷ (43, r32) ∷ []
+
+abbrev t102 : List.List Row.Entry
+t102 = (0, r58) ∷ (1, r61) ∷ (2, r13) ∷ (3, r35) ∷ (4, r34) ∷ (5, r14) ∷ (6, r3) ∷ (7, r59) ∷ (8, L.h64) ∷ (9, r63) ∷ (10, r47) ∷ (11, r62) ∷ (12, r60) ∷ (13, L.g64) ∷ (14, r57) ∷
+    (15, L.g64) ∷ []
+
+abbrev t103 : List.List Row.Entry
+t103 = (32, r45) ∷ (33, r37) ∷ (34, r33) ∷ (35, r31) ∷ (36, r44) ∷ (37, r36) ∷ (38, r18) ∷ (39, r31) ∷ (40, r44) ∷ (41, r36) ∷ (42, r28) ∷ (43, r32) ∷ []
+
+abbrev t106 : List.List Row.Entry
+t106 = (0, r58) ∷ (1, r46) ∷ (2, r8) ∷ (3, r27) ∷ (4, r34) ∷ (5, r14) ∷ (6, r12) ∷ (7, r59) ∷ (8, L.h64) ∷ (9, r63) ∷ (10, r47) ∷ (11, r62) ∷ (12, r60) ∷ (13, L.g64) ∷ (14, r57) ∷
+    (15, L.g64) ∷ []
+
+abbrev t107 : List.List Row.Entry
+t107 = (32, r45) ∷ (33, r37) ∷ (34, r33) ∷ (35, r31) ∷ (36, r44) ∷ (37, r36) ∷ (38, r28) ∷ (39, r19) ∷ (40, Relend.msptr S.row y11 20) ∷ (41, r36) ∷ (42, r28) ∷ (43, r32) ∷ []
+
+abbrev t109 : List.List Row.Entry
+t109 = (0, r58) ∷ (1, r46) ∷ (2, r8) ∷ (3, r27) ∷ (4, r34) ∷ (5, r14) ∷ (6, r4) ∷ (7, r59) ∷ (8, L.h64) ∷ (9, r63) ∷ (10, r47) ∷ (11, r62) ∷ (12, r60) ∷ (13, L.g64) ∷ (14, r57) ∷ (15, L.g64)
+    ∷ []
+
+abbrev t110 : List.List Row.Entry
+t110 = (32, r45) ∷ (33, r37) ∷ (34, r33) ∷ (35, r31) ∷ (36, r44) ∷ (37, r36) ∷ (38, r28) ∷ (39, r19) ∷ (40, r44) ∷ (41, r41) ∷ (42, Rows'.mref (Array'.Array L.u64 6912) y3 21) ∷ (43, r32) ∷
+    []
+
+abbrev t111 : List.List Row.Entry
+t111 = (32, r45) ∷ (33, r37) ∷ (34, r33) ∷ (35, r31) ∷ (36, r44) ∷ (37, r36) ∷ (38, r28) ∷ (39, r22) ∷ (40, r44) ∷ (41, r43) ∷ (42, r18) ∷ (43, r32) ∷ []
+
+abbrev t119 : List.List Row.Entry
+t119 = (16, r57) ∷ (17, L.h64) ∷ (18, L.gbool) ∷ (19, r58) ∷ (20, r31) ∷ (21, r44) ∷ (22, r36) ∷ (23, r31) ∷ (24, r44) ∷ (25, r36) ∷ (26, r31) ∷ (27, r32) ∷ (28, r45) ∷ (29, r37) ∷ (30, r33)
+    ∷ (31, r32) ∷ []
+
+abbrev t120 : List.List Row.Entry
+t120 = (0, r58) ∷ (1, r46) ∷ (2, r2) ∷ (3, r35) ∷ (4, r34) ∷ (5, r14) ∷ (6, r12) ∷ (7, r59) ∷ (8, L.h64) ∷ (9, r63) ∷ (10, r47) ∷ (11, r62) ∷ (12, r60) ∷ (13, L.g64) ∷ (14, r57) ∷
+    (15, L.g64) ∷ []
+
+abbrev t121 : List.List Row.Entry
+t121 = (32, r45) ∷ (33, r37) ∷ (34, r33) ∷ (35, r31) ∷ (36, r44) ∷ (37, r36) ∷ (38, r28) ∷ (39, r31) ∷ (40, r44) ∷ (41, r36) ∷ (42, r28) ∷ (43, Rows'.sref (Array'.Array L.u64 928) y6 22) ∷
+    []
+
 abbrev on : Nat.ℕ → Row.Row → Row.Cx → Row.Cx
 on n r Γ = record { locals = Row.setRow n (n, r) (Γ .locals); slots = Γ .slots }
 
@@ -540,13 +726,13 @@ abbrev T5 : Row.Cx
 T5 = on 18 L.hbool T4
 
 abbrev T7 : Row.Cx
-T7 = on 7 r59 T5
+T7 = on 18 L.hbool (on 8 L.h64 T0)
 
 abbrev T8 : Row.Cx
 T8 = on 7 r59 T4
 
 abbrev T9 : Row.Cx
-T9 = on 0 r48 T8
+T9 = on 8 L.h64 (on 0 r48 T0)
 
 abbrev T10 : Row.Cx
 T10 = on 1 r61 T9
@@ -555,10 +741,10 @@ abbrev T13 : Row.Cx
 T13 = on 9 r52 T4
 
 abbrev T14 : Row.Cx
-T14 = on 10 r64 T13
+T14 = record { locals = List._++_ t11 (List._++_ t1 t2); slots = [] }
 
 abbrev T15 : Row.Cx
-T15 = on 19 r48 (on 1 r61 T8)
+T15 = on 19 r48 (on 8 L.h64 (on 1 r61 T0))
 
 abbrev T16 : Row.Cx
 T16 = on 7 r59 T14
@@ -567,16 +753,16 @@ abbrev T17 : Row.Cx
 T17 = on 9 r53 T16
 
 abbrev T19 : Row.Cx
-T19 = on 9 r53 T8
+T19 = on 10 r47 T17
 
 abbrev T20 : Row.Cx
-T20 = on 11 r51 T19
+T20 = on 11 r51 (on 9 r53 (on 8 L.h64 T0))
 
 abbrev T21 : Row.Cx
-T21 = on 11 r51 T8
+T21 = on 11 r51 (on 8 L.h64 T0)
 
 abbrev T23 : Row.Cx
-T23 = on 20 r20 (on 2 r9 T21)
+T23 = record { locals = List._++_ t19 (List._++_ t20 t2); slots = [] }
 
 abbrev T25 : Row.Cx
 T25 = on 21 (Relend.msptr S.row y11 6) (on 3 r29 T23)
@@ -585,16 +771,16 @@ abbrev T26 : Row.Cx
 T26 = on 22 (Mut.mslice S.row y11 6) (on 3 r29 T23)
 
 abbrev T27 : Row.Cx
-T27 = on 22 r43 (on 20 r22 (on 19 r48 T26))
+T27 = record { locals = List._++_ t21 (List._++_ t24 t2); slots = [] }
 
 abbrev T28 : Row.Cx
 T28 = on 1 r61 T27
 
 abbrev T29 : Row.Cx
-T29 = on 22 r43 (on 20 r22 (on 3 r29 (on 2 r9 T15)))
+T29 = on 11 r62 T28
 
 abbrev T31 : Row.Cx
-T31 = on 22 r43 (on 3 r29 T15)
+T31 = record { locals = List._++_ t27 (List._++_ t28 t2); slots = [] }
 
 abbrev T36 : Row.Cx
 T36 = on 9 (Rows'.whole (Known.Known Op.enum 1)) T16
@@ -603,10 +789,10 @@ abbrev T38 : Row.Cx
 T38 = on 12 r50 T36
 
 abbrev T39 : Row.Cx
-T39 = on 9 r63 T38
+T39 = on 12 r50 (on 9 r63 T16)
 
 abbrev T41 : Row.Cx
-T41 = on 23 r21 (on 2 r10 T39)
+T41 = record { locals = List._++_ t32 (List._++_ t33 t2); slots = [] }
 
 abbrev T43 : Row.Cx
 T43 = on 24 (Relend.msptr S.row y11 8) (on 3 r30 T41)
@@ -615,7 +801,7 @@ abbrev T44 : Row.Cx
 T44 = on 25 (Mut.mslice S.row y11 8) (on 3 r30 T41)
 
 abbrev T45 : Row.Cx
-T45 = on 25 r43 (on 23 r22 (on 19 r48 (on 12 r50 (on 10 r64 (on 3 r30 (on 2 r10 T8))))))
+T45 = record { locals = List._++_ t34 (List._++_ t37 t2); slots = [] }
 
 abbrev T46 : Row.Cx
 T46 = on 1 r61 T45
@@ -624,25 +810,25 @@ abbrev T47 : Row.Cx
 T47 = on 10 r47 T46
 
 abbrev T48 : Row.Cx
-T48 = on 25 r43 (on 23 r22 (on 3 r30 (on 2 r10 T15)))
+T48 = on 12 r60 T47
 
 abbrev T50 : Row.Cx
-T50 = on 25 r43 (on 3 r30 T15)
+T50 = on 25 r43 (on 22 r36 (on 3 r30 T31))
 
 abbrev T55 : Row.Cx
 T55 = on 9 r54 T16
 
 abbrev T57 : Row.Cx
-T57 = on 9 r54 T8
+T57 = on 10 r47 T55
 
 abbrev T58 : Row.Cx
-T58 = on 13 L.h64 T57
+T58 = on 13 L.h64 (on 9 r54 (on 8 L.h64 T0))
 
 abbrev T59 : Row.Cx
-T59 = on 9 r63 T58
+T59 = on 13 L.h64 (on 8 L.h64 T0)
 
 abbrev T61 : Row.Cx
-T61 = on 26 (Rows'.mref (Array'.Array L.u64 928) y4 9) (on 2 (Rows'.mref-owed (Array'.Array L.u64 928) y1 0 9 Row.off) T59)
+T61 = record { locals = List._++_ t47 (List._++_ t48 t2); slots = [] }
 
 abbrev T62 : Row.Cx
 T62 = on 26 r22 (on 19 r48 T61)
@@ -651,40 +837,40 @@ abbrev T63 : Row.Cx
 T63 = on 1 r61 T62
 
 abbrev T64 : Row.Cx
-T64 = on 13 L.g64 T63
+T64 = record { locals = List._++_ t51 (List._++_ t49 t2); slots = [] }
 
 abbrev T68 : Row.Cx
 T68 = on 9 r55 T16
 
 abbrev T70 : Row.Cx
-T70 = on 9 r55 T8
+T70 = on 10 r47 T68
 
 abbrev T71 : Row.Cx
-T71 = on 14 r42 T70
+T71 = on 14 r42 (on 9 r55 (on 8 L.h64 T0))
 
 abbrev T72 : Row.Cx
-T72 = on 14 r42 T8
+T72 = on 14 r42 (on 8 L.h64 T0)
 
 abbrev T74 : Row.Cx
-T74 = on 27 r15 (on 2 r0 T72)
+T74 = record { locals = List._++_ t56 (List._++_ t57 t2); slots = [] }
 
 abbrev T76 : Row.Cx
 T76 = on 28 (Relend.ssptr S.row y12 11) (on 3 r24 T74)
 
 abbrev T77 : Row.Cx
-T77 = on 29 (Rows'.sslice S.row y12 11) (on 3 r24 T74)
+T77 = on 29 r38 (on 3 r24 T74)
 
 abbrev T79 : Row.Cx
-T79 = on 30 (Rows'.mref (Array'.Array L.u64 512) y5 12) (on 5 r5 T77)
+T79 = record { locals = List._++_ t61 (List._++_ t62 t2); slots = [] }
 
 abbrev T80 : Row.Cx
 T80 = on 30 r23 (on 19 r48 T79)
 
 abbrev T81 : Row.Cx
-T81 = on 30 r23 (on 27 r32 (on 19 r48 (on 5 r5 T77)))
+T81 = on 27 r32 T80
 
 abbrev T82 : Row.Cx
-T82 = on 30 r23 (on 19 r48 (on 5 r5 (on 3 r24 (on 2 r0 T72))))
+T82 = record { locals = List._++_ t61 (List._++_ t65 t2); slots = [] }
 
 abbrev T83 : Row.Cx
 T83 = on 1 r61 T82
@@ -696,19 +882,19 @@ abbrev T86 : Row.Cx
 T86 = on 2 r13 T84
 
 abbrev T89 : Row.Cx
-T89 = on 30 r23 (on 5 r5 T15)
+T89 = record { locals = List._++_ t69 (List._++_ t65 t2); slots = [] }
 
 abbrev T94 : Row.Cx
 T94 = on 9 r56 T16
 
 abbrev T96 : Row.Cx
-T96 = on 9 r56 T8
+T96 = on 10 r47 T94
 
 abbrev T97 : Row.Cx
-T97 = on 15 L.h64 T96
+T97 = on 15 L.h64 (on 9 r56 (on 8 L.h64 T0))
 
 abbrev T98 : Row.Cx
-T98 = on 16 r42 T97
+T98 = record { locals = List._++_ t72 (List._++_ t73 t2); slots = [] }
 
 abbrev T99 : Row.Cx
 T99 = on 9 r63 T98
@@ -717,88 +903,88 @@ abbrev T101 : Row.Cx
 T101 = on 31 r16 (on 2 r1 T99)
 
 abbrev T103 : Row.Cx
-T103 = on 32 (Relend.ssptr S.row y12 14) (on 3 r25 T101)
+T103 = record { locals = List._++_ t77 (List._++_ t76 t78); slots = [] }
 
 abbrev T104 : Row.Cx
-T104 = on 33 r39 (on 3 r25 T101)
+T104 = on 33 r39 (on 32 r45 T103)
 
 abbrev T106 : Row.Cx
-T106 = on 34 (Rows'.mref (Array'.Array L.u64 512) y5 15) (on 33 r39 (on 31 r16 (on 16 r42 (on 15 L.h64 (on 5 r6 (on 3 r25 (on 2 r1 T8)))))))
+T106 = record { locals = List._++_ t80 (List._++_ t76 t81); slots = [] }
 
 abbrev T107 : Row.Cx
-T107 = on 34 r23 (on 33 r39 (on 31 r16 (on 19 r48 (on 16 r42 (on 15 L.h64 (on 5 r6 (on 3 r25 (on 2 r1 T8))))))))
+T107 = on 34 r23 (on 19 r48 T106)
 
 abbrev T108 : Row.Cx
-T108 = on 34 r23 (on 33 r39 (on 19 r48 (on 16 r42 (on 15 L.h64 (on 5 r6 (on 3 r25 (on 2 r1 T8)))))))
+T108 = on 31 r32 T107
 
 abbrev T109 : Row.Cx
-T109 = on 33 r37 T108
+T109 = record { locals = List._++_ t80 (List._++_ t84 t85); slots = [] }
 
 abbrev T110 : Row.Cx
-T110 = on 34 r23 (on 16 r42 (on 15 L.h64 (on 5 r6 (on 3 r25 (on 2 r1 T15)))))
+T110 = on 1 r61 T109
 
 abbrev T111 : Row.Cx
 T111 = on 15 L.g64 T110
 
 abbrev T112 : Row.Cx
-T112 = on 34 r23 (on 5 r6 (on 3 r25 (on 2 r1 T15)))
+T112 = on 16 r57 T111
 
 abbrev T114 : Row.Cx
-T114 = on 2 r13 T112
+T114 = record { locals = List._++_ t88 (List._++_ t13 t85); slots = [] }
 
 abbrev T117 : Row.Cx
 T117 = on 3 r35 T114
 
 abbrev T123 : Row.Cx
-T123 = on 10 r64 T8
+T123 = on 9 r63 T16
 
 abbrev T126 : Row.Cx
-T126 = on 35 r17 (on 2 r7 T8)
+T126 = on 35 r17 (on 8 L.h64 (on 2 r7 T0))
 
 abbrev T128 : Row.Cx
-T128 = on 36 (Relend.msptr S.row y11 17) (on 3 r26 T126)
+T128 = record { locals = List._++_ t93 (List._++_ t1 t94); slots = [] }
 
 abbrev T129 : Row.Cx
-T129 = on 37 r40 (on 3 r26 T126)
+T129 = on 37 r40 (on 36 r44 T128)
 
 abbrev T131 : Row.Cx
-T131 = on 38 (Rows'.mref (Array'.Array L.u64 6912) y3 18) (on 6 r3 T129)
+T131 = record { locals = List._++_ t96 (List._++_ t1 t97); slots = [] }
 
 abbrev T132 : Row.Cx
-T132 = on 38 r18 (on 37 r43 (on 35 r22 (on 19 r48 (on 6 r3 T129))))
+T132 = record { locals = List._++_ t96 (List._++_ t13 t98); slots = [] }
 
 abbrev T133 : Row.Cx
-T133 = on 38 r18 (on 37 r43 (on 35 r22 (on 6 r3 (on 3 r26 (on 2 r7 T15)))))
+T133 = on 1 r61 T132
 
 abbrev T135 : Row.Cx
-T135 = on 38 r18 (on 37 r43 (on 6 r3 (on 3 r26 T15)))
+T135 = on 35 r31 (on 2 r13 T133)
 
 abbrev T138 : Row.Cx
-T138 = on 38 r18 (on 6 r3 T15)
+T138 = record { locals = List._++_ t102 (List._++_ t13 t103); slots = [] }
 
 abbrev T147 : Row.Cx
-T147 = on 39 r19 (on 2 r8 T8)
+T147 = on 39 r19 (on 8 L.h64 (on 2 r8 T0))
 
 abbrev T149 : Row.Cx
-T149 = on 40 (Relend.msptr S.row y11 20) (on 3 r27 T147)
+T149 = record { locals = List._++_ t106 (List._++_ t1 t107); slots = [] }
 
 abbrev T150 : Row.Cx
-T150 = on 41 r41 (on 3 r27 T147)
+T150 = on 41 r41 (on 40 r44 T149)
 
 abbrev T152 : Row.Cx
-T152 = on 42 (Rows'.mref (Array'.Array L.u64 6912) y3 21) (on 6 r4 T150)
+T152 = record { locals = List._++_ t109 (List._++_ t1 t110); slots = [] }
 
 abbrev T153 : Row.Cx
-T153 = on 42 r18 (on 41 r43 (on 39 r22 (on 19 r48 (on 6 r4 T150))))
+T153 = record { locals = List._++_ t109 (List._++_ t13 t111); slots = [] }
 
 abbrev T154 : Row.Cx
-T154 = on 42 r18 (on 41 r43 (on 39 r22 (on 6 r4 (on 3 r27 (on 2 r8 T15)))))
+T154 = on 1 r61 T153
 
 abbrev T156 : Row.Cx
-T156 = on 42 r18 (on 41 r43 (on 6 r4 (on 3 r27 T15)))
+T156 = on 39 r31 (on 2 r13 T154)
 
 abbrev T159 : Row.Cx
-T159 = on 42 r18 (on 6 r4 T15)
+T159 = on 42 r18 (on 38 r28 (on 6 r4 T138))
 
 abbrev T164 : Row.Cx
 T164 = on 9 (Rows'.whole (Known.Known Op.enum 7)) T16
@@ -807,31 +993,31 @@ abbrev T166 : Row.Cx
 T166 = on 10 r47 T164
 
 abbrev T167 : Row.Cx
-T167 = on 17 L.h64 T166
+T167 = on 17 L.h64 (on 9 (Rows'.whole (Known.Known Op.enum 7)) (on 8 L.h64 T0))
 
 abbrev T168 : Row.Cx
-T168 = on 9 r63 T167
+T168 = on 17 L.h64 (on 8 L.h64 T0)
 
 abbrev T170 : Row.Cx
-T170 = on 43 (Rows'.sref (Array'.Array L.u64 928) y6 22) (on 2 r2 T168)
+T170 = record { locals = List._++_ t120 (List._++_ t119 t121); slots = [] }
 
 abbrev T171 : Row.Cx
 T171 = on 19 r48 T170
 
 abbrev T172 : Row.Cx
-T172 = on 19 r48 (on 2 r2 T168)
+T172 = on 43 r32 T171
 
 abbrev T173 : Row.Cx
 T173 = on 1 r61 T172
 
 abbrev T174 : Row.Cx
-T174 = on 2 r2 T15
+T174 = on 26 r31 (on 2 r2 T64)
 
 abbrev T181 : Row.Cx
-T181 = on 19 r48 T8
+T181 = on 19 r48 (on 8 L.h64 T0)
 
 abbrev T183 : Row.Cx
-T183 = on 0 r48 T15
+T183 = on 22 r36 (on 3 r35 (on 0 r48 T31))
 
 abbrev T184 : Row.Cx
 T184 = on 19 r48 T1
@@ -1374,7 +1560,7 @@ module _ (cl : Claims) where
       G16 = lives z0 T16
 
       abbrev G19 : Row.Cx
-      G19 = on 9 r53 G8
+      G19 = lives z0 T19
 
       abbrev G36 : Row.Cx
       G36 = lives z0 T36
@@ -1397,13 +1583,13 @@ module _ (cl : Claims) where
             (Rows'.whole R) R (λ x. x) (λ x. x)
         copied R one c = Yields.yields-copy U H A W (λ ρ. Unit) R one c (Rows'.whole R) (λ x. x) (λ x. x) (λ ρ told. Local.mem-whole U H A W R ρ) λ ρ told. Local.whole-mem U H A W R ρ
 
-        pre : {Γ Γ₁ : Row.Cx} {b : Y.Body} {Δ : Typed.Outs} {φ : Typed.Tf Γ Γ₁} {Φ : Typed.TF Γ₁ Δ} → Typed.Ghost U H A E Γ Γ₁ φ → Typed.Typed U H A C E Γ₁ b Δ Φ → Typed.Typed U H A C E Γ b
+        pre : {Γ Γ₁ : Row.Cx} {b : Y.Body} {Δ : Typed.Outs} {Φ : Typed.TF Γ₁ Δ} (φ : Typed.Tf Γ Γ₁) → Typed.Ghost U H A E Γ Γ₁ φ → Typed.Typed U H A C E Γ₁ b Δ Φ → Typed.Typed U H A C E Γ b
             Δ (λ Ψ. φ (Φ Ψ))
-        pre = Typed.g-pre U H A W C E _ _ _ _ _ _
+        pre φ = Typed.g-pre U H A W C E _ _ _ _ φ _
 
-        seq : {Γ Γ₁ : Row.Cx} {a b : Y.Body} {Δ : Typed.Outs} {φ : Typed.Tf Γ Γ₁} {Φ : Typed.TF Γ₁ Δ} → Typed.Stmt U H A C E Γ a Γ₁ φ → Typed.Typed U H A C E Γ₁ b Δ Φ → Typed.Typed U H A C E
+        seq : {Γ Γ₁ : Row.Cx} {a b : Y.Body} {Δ : Typed.Outs} {Φ : Typed.TF Γ₁ Δ} (φ : Typed.Tf Γ Γ₁) → Typed.Stmt U H A C E Γ a Γ₁ φ → Typed.Typed U H A C E Γ₁ b Δ Φ → Typed.Typed U H A C E
             Γ (Y.seq a b) Δ (λ Ψ. φ (Φ Ψ))
-        seq = Typed.s-seq U H A W C E _ _ _ _ _ _ _
+        seq φ = Typed.s-seq U H A W C E _ _ _ _ _ φ _
 
         post : {Γ Γ₁ Γ₂ : Row.Cx} {a : Y.Body} {φ : Typed.Tf Γ Γ₁} {φ′ : Typed.Tf Γ₁ Γ₂} → Typed.Stmt U H A C E Γ a Γ₁ φ → Typed.Ghost U H A E Γ₁ Γ₂ φ′ → Typed.Stmt U H A C E Γ a Γ₂ (λ Ψ. φ
             (φ′ Ψ))
@@ -1433,35 +1619,36 @@ module _ (cl : Claims) where
         gone = Reads'.room-gone U H A
 
         d2 : Typed.Typed U H A C E (lives z0 T9) b4 Δ1 at2
-        d2 = pre (room 1 Session′.mir (Local.room-whole U H A W (Declared'.row Session.the-type) Session′.mir refl)) (pre (room 8 (Y.tyInt Y.w64) (Scalar.room-sc U H A W (Row.sInt Y.w64)))
-            (Typed.t-return U H A W C E Δ1 tt))
+        d2 = pre (Typed.pass T9 T10 s7) (room 1 Session′.mir (Local.room-whole U H A W (Declared'.row Session.the-type) Session′.mir refl)) (pre (Typed.pass T10 T1 s8) (room 8 (Y.tyInt
+            Y.w64) (Scalar.room-sc U H A W (Row.sInt Y.w64))) (Typed.t-return U H A W C E Δ1 tt))
 
         d5 : Typed.Typed U H A C E G5 b5 Δ1 at5
-        d5 = pre (room 7 Request′.mir (Local.room-whole U H A W (Declared'.row Request.the-type) Request′.mir refl)) (pre (room 18 Y.tyBool (Scalar.room-sc U H A W Row.sBool)) (seq
-            (Plain.t-call-plain U H A W C 0 ps·2 r·2 (cl .4) (cl .5) "replies::declined" (known .2) E (λ pos β. β) _ (record { pos = 1; st = []; d = 0; at = λ x. x }, (Num.vAt 8 λ x. x, tt))
-            0 [] (Call.sub-id U H A W _)
+        d5 = pre (Typed.pass T5 T7 s4) (room 7 Request′.mir (Local.room-whole U H A W (Declared'.row Request.the-type) Request′.mir refl)) (pre (Typed.pass T7 T8 s5) (room 18 Y.tyBool
+            (Scalar.room-sc U H A W Row.sBool)) (seq (Typed.both s6) (Plain.t-call-plain U H A W C 0 ps·2 r·2 (cl .4) (cl .5) "replies::declined" (known .2) E (λ pos β. β) _
+            (record { pos = 1; st = []; d = 0; at = λ x. x }, (Num.vAt 8 λ x. x, tt)) 0 [] (Call.sub-id U H A W _)
             ((copied (Declared'.row Session.the-type) refl (Copies.cStruct Session.the-type Session′.the-laws Session′.the-copy .copy U H A W), refl), ((Scalar.reads-sc U H A W (Row.sInt Y.w64), refl), tt))
             (gone Replied′.mir) tt refl) d2))
 
         d7 : Typed.Typed U H A C E G5 b6 Δ1 at7
-        d7 = pre (room 18 Y.tyBool (Scalar.room-sc U H A W Row.sBool)) (Typed.t-skip U H A W C E Δ1 tt)
+        d7 = pre (Typed.pass T5 T4 s9) (room 18 Y.tyBool (Scalar.room-sc U H A W Row.sBool)) (Typed.t-skip U H A W C E Δ1 tt)
 
         d8 : Typed.Typed U H A C E G5 b7 Δ1 at8
         d8 = Scalar.t-cond U H A W E C _ 18 (λ x. x) b5 b6 Δ1 at5 at7 (Scalar.reads-sc U H A W Row.sBool) refl d5 d7
 
         d16 : Typed.Typed U H A C E G19 b18 Δ2 at16
-        d16 = seq (CopyOut.t-copy-told U H A W E C (Declared'.row SetUp.the-type) refl (Laws'9.val SetUp.the-type SetUp′.the-laws) (Laws'9.lawful SetUp.the-type SetUp′.the-laws U H A W)
-            (Laws'9.makes SetUp.the-type SetUp′.the-plain U H A) _ 11 (Scalar.oFld 9 (Y.variant 0 ∷ Y.field 1 ∷ []) SetUp′.mir 4 λ v. Laws'9.val SetUp.the-type SetUp′.the-laws (v .0)) (λ m.
-            m .1 .1 .1 .1 .1 .1 .1 .1 .1 .0 .0) (λ m. Laws'7.Fields (Declared.variants Op.the-type) (Laws'7.spellss (Op.enum .parts) Op′.the-laws) (Op.the-type .to (Known.at Op.enum 0 (m .1
-            .1 .1 .1 .1 .1 .1 .1 .1 .0)))) (gone SetUp′.mir)
+        d16 = seq (Typed.pass T19 T20 s16) (CopyOut.t-copy-told U H A W E C (Declared'.row SetUp.the-type) refl (Laws'9.val SetUp.the-type SetUp′.the-laws) (Laws'9.lawful SetUp.the-type
+            SetUp′.the-laws U H A W) (Laws'9.makes SetUp.the-type SetUp′.the-plain U H A) _ 11 (Scalar.oFld 9 (Y.variant 0 ∷ Y.field 1 ∷ []) SetUp′.mir 4 λ v. Laws'9.val SetUp.the-type
+            SetUp′.the-laws (v .0)) (λ m. m .1 .1 .1 .1 .1 .1 .1 .1 .1 .0 .0) (λ m. Laws'7.Fields (Declared.variants Op.the-type) (Laws'7.spellss (Op.enum .parts) Op′.the-laws) (Op.the-type
+            .to (Known.at Op.enum 0 (m .1 .1 .1 .1 .1 .1 .1 .1 .1 .0)))) (gone SetUp′.mir)
             (Match.reads-payload U H A W Op.enum Op′.the-laws 0 refl refl (λ v. Val.vcons (Laws'9.val SetUp.the-type SetUp′.the-laws (v .0)) Val.vnil) (λ v. refl) 0 SetUp′.mir 4 refl, refl)
             refl (λ ρ m. Make.tells-row U H A W E ρ (Row.out 11 (G19 .locals)) m 9 (Laws'7.Fields (Declared.variants Op.the-type) (Laws'7.spellss (Op.enum .parts) Op′.the-laws) (Op.the-type
             .to (Known.at Op.enum 0 (m .1 .1 .1 .1 .1 .1 .1 .1 .1 .0)))) (Known.known-is U H A W E Op.enum 0 Op′.the-laws ρ 9 (m .1 .1 .1 .1 .1 .1 .1 .1 .1 .0))) (λ m k wa. refl) λ m k wa. k
-            .0) (pre (room 9 Op′.mir (Local.room-whole U H A W (Known.Known Op.enum 0) Op′.mir refl)) (pre (begin 5 _) (seq (Reborrow.t-mref-relend U H A W E C _ 2 20 0 5 (Array'.Array L.u64
-            928) y14 y1 y4 l0 (λ x. x) (as-is r13) (gone y4) refl tt refl refl λ b o. tt) (pre (begin 6 _) (seq (Relend.t-sl-relend U H A W E S.row C _ 3 21 1 6 y10 y11 l1 0 (λ x. x) (as-is
-            r35) (gone y11) refl tt refl refl refl λ b o. tt) (seq (Relend.t-sl-aggregate U H A W E S.row C (Relend.asMut S.row) _ 21 22 6 y11 y11 (λ x. x) (Scalar.oFld 3 (Y.field 1 ∷ [])
-            (Y.tyInt Y.w64) 8 λ v. Shared.lenV (v .0)) (as-is (Relend.msptr S.row y11 6)) (gone y9) (Relend.reads-owed-len U H A W S.row y10 1 6 l1 8 refl, refl) refl refl λ b o k. tt) (stm
-            tt (post (post (post (post (post (post (post (post (Plain.t-call-plain U H A W C 2 ps·3 r·3 (cl .6) (cl .7) "session::do_set_up" (known .3) E (λ pos β. β) _
+            .0) (pre (Typed.pass T20 T21 s17) (room 9 Op′.mir (Local.room-whole U H A W (Known.Known Op.enum 0) Op′.mir refl)) (pre (λ Ψ. Ψ) (begin 5 _) (seq (Typed.give s19)
+            (Reborrow.t-mref-relend U H A W E C _ 2 20 0 5 (Array'.Array L.u64 928) y14 y1 y4 l0 (λ x. x) (as-is r13) (gone y4) refl tt refl refl λ b o. tt) (pre (λ Ψ. Ψ) (begin 6 _) (seq
+            (Typed.give s21) (Relend.t-sl-relend U H A W E S.row C _ 3 21 1 6 y10 y11 l1 0 (λ x. x) (as-is r35) (gone y11) refl tt refl refl refl λ b o. tt) (seq (Typed.ask s22)
+            (Relend.t-sl-aggregate U H A W E S.row C (Relend.asMut S.row) _ 21 22 6 y11 y11 (λ x. x) (Scalar.oFld 3 (Y.field 1 ∷ []) (Y.tyInt Y.w64) 8 λ v. Shared.lenV (v .0)) (as-is
+            (Relend.msptr S.row y11 6)) (gone y9) (Relend.reads-owed-len U H A W S.row y10 1 6 l1 8 refl, refl) refl refl λ b o k. tt) (stm tt (post (post (post (post (post (post (post (post
+            (Plain.t-call-plain U H A W C 2 ps·3 r·3 (cl .6) (cl .7) "session::do_set_up" (known .3) E (λ pos β. β) _
             (record { pos = 1; st = []; d = 0; at = λ x. x }, (record { pos = 20; ty = y4; ref = λ x. x }, (record { pos = 22; ty = y11; ref = λ x. x }, (record { pos = 11; st = []; d = 0; at = λ x. x }, tt))))
             19 (5 ∷ 6 ∷ []) (Call.sub-id U H A W _)
             ((copied (Declared'.row Session.the-type) refl (Copies.cStruct Session.the-type Session′.the-laws Session′.the-copy .copy U H A W), refl), (as-is r20, Reads'.reads-mref U H A W (Array'.Array L.u64 928) y4 5, refl, (as-is (Mut.mslice S.row y11 6), Mut.reads-mslice U H A W S.row y11 6, refl, ((copied (Declared'.row SetUp.the-type) refl (Copies.cStruct SetUp.the-type SetUp′.the-laws SetUp′.the-copy .copy U H A W), refl), tt))))
@@ -1471,22 +1658,23 @@ module _ (cl : Claims) where
             y10 y11 l1 (λ x. x) (λ x. x) (as-is r43) (as-is (Relend.mslice-owed S.row y10 1 6 l1)) refl refl)) (forget 6 Row.dead refl)))))))))
 
         d19 : Typed.Typed U H A C E G16 b18 Δ2 at19
-        d19 = pre (Known.g-enum-known U H A W E Op.enum 0 _ 9 (λ x. x) (as-is r52)) (pre (Known.g-known-told U H A W E Op.enum 0 _ 9 Op′.the-laws (λ x. x) (as-is r53)) (pre (room 10 y16
-            (Init.room-arr U H A W L.u8 16 0 16 refl)) d16))
+        d19 = pre (Typed.both s13) (Known.g-enum-known U H A W E Op.enum 0 _ 9 (λ x. x) (as-is r52)) (pre (Typed.give s14) (Known.g-known-told U H A W E Op.enum 0 _ 9 Op′.the-laws (λ x. x)
+            (as-is r53)) (pre (Typed.pass T17 T19 s15) (room 10 y16 (Init.room-arr U H A W L.u8 16 0 16 refl)) d16))
 
         d27 : Typed.Typed U H A C E G36 b27 Δ2 at27
-        d27 = seq (CopyOut.t-copy-told U H A W E C (Declared'.row Arrival.the-type) refl (Laws'9.val Arrival.the-type Arrival′.the-laws) (Laws'9.lawful Arrival.the-type Arrival′.the-laws U H
-            A W) (Laws'9.makes Arrival.the-type Arrival′.the-plain U H A) _ 12 (Scalar.oFld 9 (Y.variant 1 ∷ Y.field 1 ∷ []) Arrival′.mir 8 λ v. Laws'9.val Arrival.the-type Arrival′.the-laws
-            (v .0)) (λ m. m .1 .1 .1 .1 .1 .1 .1 .1 .1 .0 .0) (λ m. Laws'7.Fields (Declared.variants Op.the-type) (Laws'7.spellss (Op.enum .parts) Op′.the-laws) (Op.the-type .to (Known.at
-            Op.enum 1 (m .1 .1 .1 .1 .1 .1 .1 .1 .1 .0)))) (gone Arrival′.mir)
+        d27 = seq (Typed.pass T36 T38 s34) (CopyOut.t-copy-told U H A W E C (Declared'.row Arrival.the-type) refl (Laws'9.val Arrival.the-type Arrival′.the-laws) (Laws'9.lawful
+            Arrival.the-type Arrival′.the-laws U H A W) (Laws'9.makes Arrival.the-type Arrival′.the-plain U H A) _ 12 (Scalar.oFld 9 (Y.variant 1 ∷ Y.field 1 ∷ []) Arrival′.mir 8 λ v.
+            Laws'9.val Arrival.the-type Arrival′.the-laws (v .0)) (λ m. m .1 .1 .1 .1 .1 .1 .1 .1 .1 .0 .0) (λ m. Laws'7.Fields (Declared.variants Op.the-type) (Laws'7.spellss (Op.enum
+            .parts) Op′.the-laws) (Op.the-type .to (Known.at Op.enum 1 (m .1 .1 .1 .1 .1 .1 .1 .1 .1 .0)))) (gone Arrival′.mir)
             (Match.reads-payload U H A W Op.enum Op′.the-laws 1 refl refl (λ v. Val.vcons (Laws'9.val Arrival.the-type Arrival′.the-laws (v .0)) Val.vnil) (λ v. refl) 0 Arrival′.mir 8 refl, refl)
             refl (λ ρ m. Make.tells-row U H A W E ρ (Row.out 12 (G36 .locals)) m 9 (Laws'7.Fields (Declared.variants Op.the-type) (Laws'7.spellss (Op.enum .parts) Op′.the-laws) (Op.the-type
             .to (Known.at Op.enum 1 (m .1 .1 .1 .1 .1 .1 .1 .1 .1 .0)))) (Known.known-is U H A W E Op.enum 1 Op′.the-laws ρ 9 (m .1 .1 .1 .1 .1 .1 .1 .1 .1 .0))) (λ m k wa. refl) λ m k wa. k
-            .0) (pre (room 9 Op′.mir (Local.room-whole U H A W (Known.Known Op.enum 1) Op′.mir refl)) (pre (begin 7 _) (seq (Reborrow.t-mref-relend U H A W E C _ 2 23 0 7 (Array'.Array L.u64
-            928) y14 y1 y4 l0 (λ x. x) (as-is r13) (gone y4) refl tt refl refl λ b o. tt) (pre (begin 8 _) (seq (Relend.t-sl-relend U H A W E S.row C _ 3 24 1 8 y10 y11 l1 0 (λ x. x) (as-is
-            r35) (gone y11) refl tt refl refl refl λ b o. tt) (seq (Relend.t-sl-aggregate U H A W E S.row C (Relend.asMut S.row) _ 24 25 8 y11 y11 (λ x. x) (Scalar.oFld 3 (Y.field 1 ∷ [])
-            (Y.tyInt Y.w64) 8 λ v. Shared.lenV (v .0)) (as-is (Relend.msptr S.row y11 8)) (gone y9) (Relend.reads-owed-len U H A W S.row y10 1 8 l1 8 refl, refl) refl refl λ b o k. tt) (stm
-            tt (post (post (post (post (post (post (post (post (post (Plain.t-call-plain U H A W C 2 ps·4 r·3 (cl .8) (cl .9) "session::do_add" (known .4) E (λ pos β. β) _
+            .0) (pre (Typed.pass T38 T39 s35) (room 9 Op′.mir (Local.room-whole U H A W (Known.Known Op.enum 1) Op′.mir refl)) (pre (λ Ψ. Ψ) (begin 7 _) (seq (Typed.give s37)
+            (Reborrow.t-mref-relend U H A W E C _ 2 23 0 7 (Array'.Array L.u64 928) y14 y1 y4 l0 (λ x. x) (as-is r13) (gone y4) refl tt refl refl λ b o. tt) (pre (λ Ψ. Ψ) (begin 8 _) (seq
+            (Typed.give s39) (Relend.t-sl-relend U H A W E S.row C _ 3 24 1 8 y10 y11 l1 0 (λ x. x) (as-is r35) (gone y11) refl tt refl refl refl λ b o. tt) (seq (Typed.ask s40)
+            (Relend.t-sl-aggregate U H A W E S.row C (Relend.asMut S.row) _ 24 25 8 y11 y11 (λ x. x) (Scalar.oFld 3 (Y.field 1 ∷ []) (Y.tyInt Y.w64) 8 λ v. Shared.lenV (v .0)) (as-is
+            (Relend.msptr S.row y11 8)) (gone y9) (Relend.reads-owed-len U H A W S.row y10 1 8 l1 8 refl, refl) refl refl λ b o k. tt) (stm tt (post (post (post (post (post (post (post (post
+            (post (Plain.t-call-plain U H A W C 2 ps·4 r·3 (cl .8) (cl .9) "session::do_add" (known .4) E (λ pos β. β) _
             (record { pos = 1; st = []; d = 0; at = λ x. x }, (record { pos = 23; ty = y4; ref = λ x. x }, (record { pos = 25; ty = y11; ref = λ x. x }, (record { pos = 12; st = []; d = 0; at = λ x. x }, (record { pos = 10; st = []; d = 0; at = λ x. x }, tt)))))
             19 (7 ∷ 8 ∷ []) (Call.sub-id U H A W _)
             ((copied (Declared'.row Session.the-type) refl (Copies.cStruct Session.the-type Session′.the-laws Session′.the-copy .copy U H A W), refl), (as-is r21, Reads'.reads-mref U H A W (Array'.Array L.u64 928) y4 7, refl, (as-is (Mut.mslice S.row y11 8), Mut.reads-mslice U H A W S.row y11 8, refl, ((copied (Declared'.row Arrival.the-type) refl (Copies.cStruct Arrival.the-type Arrival′.the-laws Arrival′.the-copy .copy U H A W), refl), ((Array.arr-yields U H A W (Array.eInt Y.w8) (Array.eInt-laws Y.w8) 16, refl), tt)))))
@@ -1496,30 +1684,31 @@ module _ (cl : Claims) where
             (Relend.g-back-sl U H A W E S.row _ 25 3 1 8 y10 y11 l1 (λ x. x) (λ x. x) (as-is r43) (as-is (Relend.mslice-owed S.row y10 1 8 l1)) refl refl)) (forget 8 Row.dead refl)))))))))
 
         d29 : Typed.Typed U H A C E G16 b27 Δ2 at29
-        d29 = pre (Known.g-enum-known U H A W E Op.enum 1 _ 9 (λ x. x) (as-is r52)) (pre (Known.g-known-told U H A W E Op.enum 1 _ 9 Op′.the-laws (λ x. x) (as-is (Rows'.whole (Known.Known
-            Op.enum 1)))) d27)
+        d29 = pre (Typed.both s32) (Known.g-enum-known U H A W E Op.enum 1 _ 9 (λ x. x) (as-is r52)) (pre (Typed.give s33) (Known.g-known-told U H A W E Op.enum 1 _ 9 Op′.the-laws (λ x. x)
+            (as-is (Rows'.whole (Known.Known Op.enum 1)))) d27)
 
         d37 : Typed.Typed U H A C E G16 b32 Δ2 at37
-        d37 = pre (Known.g-enum-known U H A W E Op.enum 2 _ 9 (λ x. x) (as-is r52)) (pre (Known.g-known-told U H A W E Op.enum 2 _ 9 Op′.the-laws (λ x. x) (as-is r54)) (pre (room 10 y16
-            (Init.room-arr U H A W L.u8 16 0 16 refl)) (seq (Scalar.t-use U H A W E C _ (Scalar.oFld 9 (Y.variant 2 ∷ Y.field 1 ∷ []) (Y.tyInt Y.w64) 8 λ v. Op′.the-laws .1 .1 .0 .0 .val (v
-            .0)) 13 L.h64 (Y.tyInt Y.w64) (Row.valS (Row.sInt Y.w64)) (Row.sInt Y.w64 .of)
+        d37 = pre (Typed.both s51) (Known.g-enum-known U H A W E Op.enum 2 _ 9 (λ x. x) (as-is r52)) (pre (Typed.give s52) (Known.g-known-told U H A W E Op.enum 2 _ 9 Op′.the-laws (λ x. x)
+            (as-is r54)) (pre (Typed.pass T55 T57 s53) (room 10 y16 (Init.room-arr U H A W L.u8 16 0 16 refl)) (seq (Typed.pass T57 T58 s54) (Scalar.t-use U H A W E C _ (Scalar.oFld 9
+            (Y.variant 2 ∷ Y.field 1 ∷ []) (Y.tyInt Y.w64) 8 λ v. Op′.the-laws .1 .1 .0 .0 .val (v .0)) 13 L.h64 (Y.tyInt Y.w64) (Row.valS (Row.sInt Y.w64)) (Row.sInt Y.w64 .of)
             (Match.reads-payload U H A W Op.enum Op′.the-laws 2 refl refl (λ v. Val.vcons (Op′.the-laws .1 .1 .0 .0 .val (v .0)) Val.vnil) (λ v. refl) 0 (Y.tyInt Y.w64) 8 refl, refl) (gone
-            (Y.tyInt Y.w64)) (Scalar.holds-sc U H A W (Row.sInt Y.w64)) refl (λ u. refl) λ u. tt) (pre (room 9 Op′.mir (Local.room-whole U H A W (Known.Known Op.enum 2) Op′.mir refl)) (pre
-            (begin 9 _) (seq (Reborrow.t-mref-relend U H A W E C _ 2 26 0 9 (Array'.Array L.u64 928) y14 y1 y4 l0 (λ x. x) (as-is r13) (gone y4) refl tt refl refl λ b o. tt) (stm tt (post
-            (post (post (post (post (Plain.t-call-plain U H A W C 1 ps·5 r·5 (cl .10) (cl .11) "session::do_no_writers" (known .5) E (λ pos β. β) _
-            (record { pos = 1; st = []; d = 0; at = λ x. x }, (record { pos = 26; ty = y4; ref = λ x. x }, (Num.vAt 13 λ x. x, tt))) 19 (9 ∷ []) (Call.sub-id U H A W _)
+            (Y.tyInt Y.w64)) (Scalar.holds-sc U H A W (Row.sInt Y.w64)) refl (λ u. refl) λ u. tt) (pre (Typed.pass T58 T59 s55) (room 9 Op′.mir (Local.room-whole U H A W (Known.Known Op.enum
+            2) Op′.mir refl)) (pre (λ Ψ. Ψ) (begin 9 _) (seq (Typed.give s57) (Reborrow.t-mref-relend U H A W E C _ 2 26 0 9 (Array'.Array L.u64 928) y14 y1 y4 l0 (λ x. x) (as-is r13) (gone
+            y4) refl tt refl refl λ b o. tt) (stm tt (post (post (post (post (post (Plain.t-call-plain U H A W C 1 ps·5 r·5 (cl .10) (cl .11) "session::do_no_writers" (known .5) E (λ pos β.
+            β) _ (record { pos = 1; st = []; d = 0; at = λ x. x }, (record { pos = 26; ty = y4; ref = λ x. x }, (Num.vAt 13 λ x. x, tt))) 19 (9 ∷ []) (Call.sub-id U H A W _)
             ((copied (Declared'.row Session.the-type) refl (Copies.cStruct Session.the-type Session′.the-laws Session′.the-copy .copy U H A W), refl), (as-is (Rows'.mref (Array'.Array L.u64 928) y4 9), Reads'.reads-mref U H A W (Array'.Array L.u64 928) y4 9, refl, ((Scalar.reads-sc U H A W (Row.sInt Y.w64), refl), tt)))
             (gone Replied′.mir) (tt, tt) refl) (room 1 Session′.mir (Local.room-whole U H A W (Declared'.row Session.the-type) Session′.mir refl))) (room 13 (Y.tyInt Y.w64) (Scalar.room-sc U
             H A W (Row.sInt Y.w64)))) (end 9 refl)) (Reborrow.g-back-mref U H A W E _ 26 2 0 9 (Array'.Array L.u64 928) y1 y4 l0 (λ x. x) (λ x. x) (as-is r22) (as-is (Rows'.mref-owed
             (Array'.Array L.u64 928) y1 0 9 l0)) refl refl)) (forget 9 Row.dead refl)))))))))
 
         d45 : Typed.Typed U H A C E (lives z0 T72) b42 Δ2 at45
-        d45 = pre (begin 10 _) (seq (Reshare.t-mref-reshare U H A W E C _ 2 27 0 10 (Array'.Array L.u64 928) y14 y1 y6 l0 (λ x. x) (as-is r13) (gone y6) refl tt refl refl λ b o. tt) (pre
-            (begin 11 _) (seq (Reshare'.t-sl-reshare U H A W E S.row C _ 3 28 1 11 y10 y12 l1 0 (λ x. x) (as-is r35) (gone y12) refl tt refl refl refl λ b o. tt) (seq (Relend.t-sl-aggregate
-            U H A W E S.row C (Relend.asShr S.row) _ 28 29 11 y12 y12 (λ x. x) (Scalar.oFld 3 (Y.field 1 ∷ []) (Y.tyInt Y.w64) 8 λ v. Shared.lenV (v .0)) (as-is (Relend.ssptr S.row y12 11))
-            (gone y8) (Reshare'.reads-owedS-len U H A W S.row y10 1 11 l1 8 refl, refl) refl refl λ b o k. tt) (pre (begin 12 _) (seq (Reborrow.t-mref-relend U H A W E C _ 5 30 3 12
-            (Array'.Array L.u64 512) y15 y2 y5 l2 (λ x. x) (as-is r14) (gone y5) refl tt refl refl λ b o. tt) (stm tt (post (post (post (post (post (post (post (post (post (post (post (post
-            (post (Plain.t-call-plain U H A W C 3 ps·6 r·6 (cl .12) (cl .13) "session::do_choose" (known .6) E (λ pos β. β) _
+        d45 = pre (λ Ψ. Ψ) (begin 10 _) (seq (Typed.give s70) (Reshare.t-mref-reshare U H A W E C _ 2 27 0 10 (Array'.Array L.u64 928) y14 y1 y6 l0 (λ x. x) (as-is r13) (gone y6) refl tt
+            refl refl λ b o. tt) (pre (λ Ψ. Ψ) (begin 11 _) (seq (Typed.give s72) (Reshare'.t-sl-reshare U H A W E S.row C _ 3 28 1 11 y10 y12 l1 0 (λ x. x) (as-is r35) (gone y12) refl tt
+            refl refl refl λ b o. tt) (seq (Typed.ask s73) (Relend.t-sl-aggregate U H A W E S.row C (Relend.asShr S.row) _ 28 29 11 y12 y12 (λ x. x) (Scalar.oFld 3 (Y.field 1 ∷ []) (Y.tyInt
+            Y.w64) 8 λ v. Shared.lenV (v .0)) (as-is (Relend.ssptr S.row y12 11)) (gone y8) (Reshare'.reads-owedS-len U H A W S.row y10 1 11 l1 8 refl, refl) refl refl λ b o k. tt) (pre (λ
+            Ψ. Ψ) (begin 12 _) (seq (Typed.give s75) (Reborrow.t-mref-relend U H A W E C _ 5 30 3 12 (Array'.Array L.u64 512) y15 y2 y5 l2 (λ x. x) (as-is r14) (gone y5) refl tt refl refl λ
+            b o. tt) (stm tt (post (post (post (post (post (post (post (post (post (post (post (post (post (Plain.t-call-plain U H A W C 3 ps·6 r·6 (cl .12) (cl .13) "session::do_choose"
+            (known .6) E (λ pos β. β) _
             (record { pos = 1; st = []; d = 0; at = λ x. x }, (record { pos = 27; ty = y6; ref = λ x. x }, (record { pos = 29; ty = y12; ref = λ x. x }, (record { pos = 14; st = []; d = 0; at = λ x. x }, (record { pos = 30; ty = y5; ref = λ x. x }, tt)))))
             19 (10 ∷ 11 ∷ 12 ∷ []) (Call.sub-id U H A W _)
             ((copied (Declared'.row Session.the-type) refl (Copies.cStruct Session.the-type Session′.the-laws Session′.the-copy .copy U H A W), refl), (ShrRef.spares-sref U H A W (Array'.Array L.u64 928) y6 10, Reads'.reads-sref U H A W (Array'.Array L.u64 928) y6 10, refl, (ShrSlice.spares-sslice U H A W S.row y12 11, Shared.reads-sslice U H A W S.row y12 11, refl, ((copied (Declared'.row ReadCondition.the-type) refl (Copies.cStruct ReadCondition.the-type ReadCondition′.the-laws ReadCondition′.the-copy .copy U H A W), refl), (as-is (Rows'.mref (Array'.Array L.u64 512) y5 12), Reads'.reads-mref U H A W (Array'.Array L.u64 512) y5 12, refl, tt)))))
@@ -1531,24 +1720,25 @@ module _ (cl : Claims) where
             l2 (λ x. x) (λ x. x) (as-is r23) (as-is (Rows'.mref-owed (Array'.Array L.u64 512) y2 3 12 l2)) refl refl)) (forget 12 Row.dead refl)))))))))
 
         d50 : Typed.Typed U H A C E G16 b43 Δ2 at50
-        d50 = pre (Known.g-enum-known U H A W E Op.enum 3 _ 9 (λ x. x) (as-is r52)) (pre (Known.g-known-told U H A W E Op.enum 3 _ 9 Op′.the-laws (λ x. x) (as-is r55)) (pre (room 10 y16
-            (Init.room-arr U H A W L.u8 16 0 16 refl)) (seq (CopyOut.t-copy-told U H A W E C (Declared'.row ReadCondition.the-type) refl (Laws'9.val ReadCondition.the-type
-            ReadCondition′.the-laws) (Laws'9.lawful ReadCondition.the-type ReadCondition′.the-laws U H A W) (Laws'9.makes ReadCondition.the-type ReadCondition′.the-plain U H A) _ 14
-            (Scalar.oFld 9 (Y.variant 3 ∷ Y.field 1 ∷ []) ReadCondition′.mir 1 λ v. Laws'9.val ReadCondition.the-type ReadCondition′.the-laws (v .0)) (λ m. m .1 .1 .1 .1 .1 .1 .1 .1 .1 .0
-            .0) (λ m. Laws'7.Fields (Declared.variants Op.the-type) (Laws'7.spellss (Op.enum .parts) Op′.the-laws) (Op.the-type .to (Known.at Op.enum 3 (m .1 .1 .1 .1 .1 .1 .1 .1 .1 .0))))
-            (gone ReadCondition′.mir)
+        d50 = pre (Typed.both s64) (Known.g-enum-known U H A W E Op.enum 3 _ 9 (λ x. x) (as-is r52)) (pre (Typed.give s65) (Known.g-known-told U H A W E Op.enum 3 _ 9 Op′.the-laws (λ x. x)
+            (as-is r55)) (pre (Typed.pass T68 T70 s66) (room 10 y16 (Init.room-arr U H A W L.u8 16 0 16 refl)) (seq (Typed.pass T70 T71 s67) (CopyOut.t-copy-told U H A W E C (Declared'.row
+            ReadCondition.the-type) refl (Laws'9.val ReadCondition.the-type ReadCondition′.the-laws) (Laws'9.lawful ReadCondition.the-type ReadCondition′.the-laws U H A W) (Laws'9.makes
+            ReadCondition.the-type ReadCondition′.the-plain U H A) _ 14 (Scalar.oFld 9 (Y.variant 3 ∷ Y.field 1 ∷ []) ReadCondition′.mir 1 λ v. Laws'9.val ReadCondition.the-type
+            ReadCondition′.the-laws (v .0)) (λ m. m .1 .1 .1 .1 .1 .1 .1 .1 .1 .0 .0) (λ m. Laws'7.Fields (Declared.variants Op.the-type) (Laws'7.spellss (Op.enum .parts) Op′.the-laws)
+            (Op.the-type .to (Known.at Op.enum 3 (m .1 .1 .1 .1 .1 .1 .1 .1 .1 .0)))) (gone ReadCondition′.mir)
             (Match.reads-payload U H A W Op.enum Op′.the-laws 3 refl refl (λ v. Val.vcons (Laws'9.val ReadCondition.the-type ReadCondition′.the-laws (v .0)) Val.vnil) (λ v. refl) 0 ReadCondition′.mir 1 refl, refl)
-            refl (λ ρ m. Make.tells-row U H A W E ρ (Row.out 14 ((on 9 r55 G8) .locals)) m 9 (Laws'7.Fields (Declared.variants Op.the-type) (Laws'7.spellss (Op.enum .parts) Op′.the-laws)
+            refl (λ ρ m. Make.tells-row U H A W E ρ (Row.out 14 ((lives z0 T70) .locals)) m 9 (Laws'7.Fields (Declared.variants Op.the-type) (Laws'7.spellss (Op.enum .parts) Op′.the-laws)
             (Op.the-type .to (Known.at Op.enum 3 (m .1 .1 .1 .1 .1 .1 .1 .1 .1 .0)))) (Known.known-is U H A W E Op.enum 3 Op′.the-laws ρ 9 (m .1 .1 .1 .1 .1 .1 .1 .1 .1 .0))) (λ m k wa.
-            refl) λ m k wa. k .0) (pre (room 9 Op′.mir (Local.room-whole U H A W (Known.Known Op.enum 3) Op′.mir refl)) d45))))
+            refl) λ m k wa. k .0) (pre (Typed.pass T71 T72 s68) (room 9 Op′.mir (Local.room-whole U H A W (Known.Known Op.enum 3) Op′.mir refl)) d45))))
 
         d58 : Typed.Typed U H A C E (lives z0 T99) b54 Δ2 at58
-        d58 = pre (begin 13 _) (seq (Reshare.t-mref-reshare U H A W E C _ 2 31 0 13 (Array'.Array L.u64 928) y14 y1 y6 l0 (λ x. x) (as-is r13) (gone y6) refl tt refl refl λ b o. tt) (pre
-            (begin 14 _) (seq (Reshare'.t-sl-reshare U H A W E S.row C _ 3 32 1 14 y10 y12 l1 0 (λ x. x) (as-is r35) (gone y12) refl tt refl refl refl λ b o. tt) (seq (Relend.t-sl-aggregate
-            U H A W E S.row C (Relend.asShr S.row) _ 32 33 14 y12 y12 (λ x. x) (Scalar.oFld 3 (Y.field 1 ∷ []) (Y.tyInt Y.w64) 8 λ v. Shared.lenV (v .0)) (as-is (Relend.ssptr S.row y12 14))
-            (gone y8) (Reshare'.reads-owedS-len U H A W S.row y10 1 14 l1 8 refl, refl) refl refl λ b o k. tt) (pre (begin 15 _) (seq (Reborrow.t-mref-relend U H A W E C _ 5 34 3 15
-            (Array'.Array L.u64 512) y15 y2 y5 l2 (λ x. x) (as-is r14) (gone y5) refl tt refl refl λ b o. tt) (stm tt (post (post (post (post (post (post (post (post (post (post (post (post
-            (post (post (Plain.t-call-plain U H A W C 3 ps·7 r·6 (cl .14) (cl .15) "session::do_choose_within" (known .7) E (λ pos β. β) _
+        d58 = pre (λ Ψ. Ψ) (begin 13 _) (seq (Typed.give s97) (Reshare.t-mref-reshare U H A W E C _ 2 31 0 13 (Array'.Array L.u64 928) y14 y1 y6 l0 (λ x. x) (as-is r13) (gone y6) refl tt
+            refl refl λ b o. tt) (pre (λ Ψ. Ψ) (begin 14 _) (seq (Typed.give s99) (Reshare'.t-sl-reshare U H A W E S.row C _ 3 32 1 14 y10 y12 l1 0 (λ x. x) (as-is r35) (gone y12) refl tt
+            refl refl refl λ b o. tt) (seq (Typed.ask s100) (Relend.t-sl-aggregate U H A W E S.row C (Relend.asShr S.row) _ 32 33 14 y12 y12 (λ x. x) (Scalar.oFld 3 (Y.field 1 ∷ []) (Y.tyInt
+            Y.w64) 8 λ v. Shared.lenV (v .0)) (as-is (Relend.ssptr S.row y12 14)) (gone y8) (Reshare'.reads-owedS-len U H A W S.row y10 1 14 l1 8 refl, refl) refl refl λ b o k. tt) (pre (λ
+            Ψ. Ψ) (begin 15 _) (seq (Typed.give s102) (Reborrow.t-mref-relend U H A W E C _ 5 34 3 15 (Array'.Array L.u64 512) y15 y2 y5 l2 (λ x. x) (as-is r14) (gone y5) refl tt refl refl λ
+            b o. tt) (stm tt (post (post (post (post (post (post (post (post (post (post (post (post (post (post (Plain.t-call-plain U H A W C 3 ps·7 r·6 (cl .14) (cl .15)
+            "session::do_choose_within" (known .7) E (λ pos β. β) _
             (record { pos = 1; st = []; d = 0; at = λ x. x }, (record { pos = 31; ty = y6; ref = λ x. x }, (record { pos = 33; ty = y12; ref = λ x. x }, (Num.vAt 15 λ x. x, (record { pos = 16; st = []; d = 0; at = λ x. x }, (record { pos = 34; ty = y5; ref = λ x. x }, tt))))))
             19 (13 ∷ 14 ∷ 15 ∷ []) (Call.sub-id U H A W _)
             ((copied (Declared'.row Session.the-type) refl (Copies.cStruct Session.the-type Session′.the-laws Session′.the-copy .copy U H A W), refl), (ShrRef.spares-sref U H A W (Array'.Array L.u64 928) y6 13, Reads'.reads-sref U H A W (Array'.Array L.u64 928) y6 13, refl, (ShrSlice.spares-sslice U H A W S.row y12 14, Shared.reads-sslice U H A W S.row y12 14, refl, ((Scalar.reads-sc U H A W (Row.sInt Y.w64), refl), ((copied (Declared'.row ReadCondition.the-type) refl (Copies.cStruct ReadCondition.the-type ReadCondition′.the-laws ReadCondition′.the-copy .copy U H A W), refl), (as-is (Rows'.mref (Array'.Array L.u64 512) y5 15), Reads'.reads-mref U H A W (Array'.Array L.u64 512) y5 15, refl, tt))))))
@@ -1561,27 +1751,28 @@ module _ (cl : Claims) where
             refl)) (forget 15 Row.dead refl)))))))))
 
         d64 : Typed.Typed U H A C E G16 b56 Δ2 at64
-        d64 = pre (Known.g-enum-known U H A W E Op.enum 4 _ 9 (λ x. x) (as-is r52)) (pre (Known.g-known-told U H A W E Op.enum 4 _ 9 Op′.the-laws (λ x. x) (as-is r56)) (pre (room 10 y16
-            (Init.room-arr U H A W L.u8 16 0 16 refl)) (seq (Scalar.t-use U H A W E C _ (Scalar.oFld 9 (Y.variant 4 ∷ Y.field 1 ∷ []) (Y.tyInt Y.w64) 8 λ v. Op′.the-laws .1 .1 .1 .1 .0 .0
-            .val (v .0)) 15 L.h64 (Y.tyInt Y.w64) (Row.valS (Row.sInt Y.w64)) (Row.sInt Y.w64 .of)
+        d64 = pre (Typed.both s90) (Known.g-enum-known U H A W E Op.enum 4 _ 9 (λ x. x) (as-is r52)) (pre (Typed.give s91) (Known.g-known-told U H A W E Op.enum 4 _ 9 Op′.the-laws (λ x. x)
+            (as-is r56)) (pre (Typed.pass T94 T96 s92) (room 10 y16 (Init.room-arr U H A W L.u8 16 0 16 refl)) (seq (Typed.pass T96 T97 s93) (Scalar.t-use U H A W E C _ (Scalar.oFld 9
+            (Y.variant 4 ∷ Y.field 1 ∷ []) (Y.tyInt Y.w64) 8 λ v. Op′.the-laws .1 .1 .1 .1 .0 .0 .val (v .0)) 15 L.h64 (Y.tyInt Y.w64) (Row.valS (Row.sInt Y.w64)) (Row.sInt Y.w64 .of)
             (Match.reads-payload U H A W Op.enum Op′.the-laws 4 refl refl (λ v. Val.vcons (Op′.the-laws .1 .1 .1 .1 .0 .0 .val (v .0)) (Val.vcons (Laws'9.val ReadCondition.the-type ReadCondition′.the-laws (v .1 .0)) Val.vnil)) (λ v. refl) 0 (Y.tyInt Y.w64) 8 refl, refl)
-            (gone (Y.tyInt Y.w64)) (Scalar.holds-sc U H A W (Row.sInt Y.w64)) refl (λ u. refl) λ u. tt) (seq (CopyOut.t-copy-told U H A W E C (Declared'.row ReadCondition.the-type) refl
-            (Laws'9.val ReadCondition.the-type ReadCondition′.the-laws) (Laws'9.lawful ReadCondition.the-type ReadCondition′.the-laws U H A W) (Laws'9.makes ReadCondition.the-type
-            ReadCondition′.the-plain U H A) _ 16 (Scalar.oFld 9 (Y.variant 4 ∷ Y.field 2 ∷ []) ReadCondition′.mir 16 λ v. Laws'9.val ReadCondition.the-type ReadCondition′.the-laws (v .1 .0))
-            (λ m. m .1 .1 .1 .1 .1 .1 .1 .1 .1 .0 .1 .0) (λ m. Laws'7.Fields (Declared.variants Op.the-type) (Laws'7.spellss (Op.enum .parts) Op′.the-laws) (Op.the-type .to (Known.at Op.enum
-            4 (m .1 .1 .1 .1 .1 .1 .1 .1 .1 .0)))) (gone ReadCondition′.mir)
+            (gone (Y.tyInt Y.w64)) (Scalar.holds-sc U H A W (Row.sInt Y.w64)) refl (λ u. refl) λ u. tt) (seq (Typed.pass T97 T98 s94) (CopyOut.t-copy-told U H A W E C (Declared'.row
+            ReadCondition.the-type) refl (Laws'9.val ReadCondition.the-type ReadCondition′.the-laws) (Laws'9.lawful ReadCondition.the-type ReadCondition′.the-laws U H A W) (Laws'9.makes
+            ReadCondition.the-type ReadCondition′.the-plain U H A) _ 16 (Scalar.oFld 9 (Y.variant 4 ∷ Y.field 2 ∷ []) ReadCondition′.mir 16 λ v. Laws'9.val ReadCondition.the-type
+            ReadCondition′.the-laws (v .1 .0)) (λ m. m .1 .1 .1 .1 .1 .1 .1 .1 .1 .0 .1 .0) (λ m. Laws'7.Fields (Declared.variants Op.the-type) (Laws'7.spellss (Op.enum .parts) Op′.the-laws)
+            (Op.the-type .to (Known.at Op.enum 4 (m .1 .1 .1 .1 .1 .1 .1 .1 .1 .0)))) (gone ReadCondition′.mir)
             (Match.reads-payload U H A W Op.enum Op′.the-laws 4 refl refl (λ v. Val.vcons (Op′.the-laws .1 .1 .1 .1 .0 .0 .val (v .0)) (Val.vcons (Laws'9.val ReadCondition.the-type ReadCondition′.the-laws (v .1 .0)) Val.vnil)) (λ v. refl) 1 ReadCondition′.mir 16 refl, refl)
             refl (λ ρ m. Make.tells-row U H A W E ρ (Row.out 16 ((lives z0 T97) .locals)) m 9 (Laws'7.Fields (Declared.variants Op.the-type) (Laws'7.spellss (Op.enum .parts) Op′.the-laws)
             (Op.the-type .to (Known.at Op.enum 4 (m .1 .1 .1 .1 .1 .1 .1 .1 .1 .0)))) (Known.known-is U H A W E Op.enum 4 Op′.the-laws ρ 9 (m .1 .1 .1 .1 .1 .1 .1 .1 .1 .0))) (λ m k wa.
-            refl) λ m k wa. k .1 .0) (pre (room 9 Op′.mir (Local.room-whole U H A W (Known.Known Op.enum 4) Op′.mir refl)) d58)))))
+            refl) λ m k wa. k .1 .0) (pre (Typed.pass T98 T99 s95) (room 9 Op′.mir (Local.room-whole U H A W (Known.Known Op.enum 4) Op′.mir refl)) d58)))))
 
         d72 : Typed.Typed U H A C E G8 b65 Δ2 at72
-        d72 = pre (begin 16 _) (seq (Reborrow.t-mref-relend U H A W E C _ 2 35 0 16 (Array'.Array L.u64 928) y14 y1 y4 l0 (λ x. x) (as-is r13) (gone y4) refl tt refl refl λ b o. tt) (pre
-            (begin 17 _) (seq (Relend.t-sl-relend U H A W E S.row C _ 3 36 1 17 y10 y11 l1 0 (λ x. x) (as-is r35) (gone y11) refl tt refl refl refl λ b o. tt) (seq (Relend.t-sl-aggregate U H
-            A W E S.row C (Relend.asMut S.row) _ 36 37 17 y11 y11 (λ x. x) (Scalar.oFld 3 (Y.field 1 ∷ []) (Y.tyInt Y.w64) 8 λ v. Shared.lenV (v .0)) (as-is (Relend.msptr S.row y11 17))
-            (gone y9) (Relend.reads-owed-len U H A W S.row y10 1 17 l1 8 refl, refl) refl refl λ b o k. tt) (pre (begin 18 _) (seq (Reborrow.t-mref-relend U H A W E C _ 6 38 4 18
-            (Array'.Array L.u64 6912) y13 y0 y3 l3 (λ x. x) (as-is r12) (gone y3) refl tt refl refl λ b o. tt) (stm tt (post (post (post (post (post (post (post (post (post (post
-            (Plain.t-call-plain U H A W C 4 ps·8 r·8 (cl .16) (cl .17) "session::do_list" (known .8) E (λ pos β. β) _
+        d72 = pre (λ Ψ. Ψ) (begin 16 _) (seq (Typed.give s122) (Reborrow.t-mref-relend U H A W E C _ 2 35 0 16 (Array'.Array L.u64 928) y14 y1 y4 l0 (λ x. x) (as-is r13) (gone y4) refl tt
+            refl refl λ b o. tt) (pre (λ Ψ. Ψ) (begin 17 _) (seq (Typed.give s124) (Relend.t-sl-relend U H A W E S.row C _ 3 36 1 17 y10 y11 l1 0 (λ x. x) (as-is r35) (gone y11) refl tt refl
+            refl refl λ b o. tt) (seq (Typed.ask s125) (Relend.t-sl-aggregate U H A W E S.row C (Relend.asMut S.row) _ 36 37 17 y11 y11 (λ x. x) (Scalar.oFld 3 (Y.field 1 ∷ []) (Y.tyInt
+            Y.w64) 8 λ v. Shared.lenV (v .0)) (as-is (Relend.msptr S.row y11 17)) (gone y9) (Relend.reads-owed-len U H A W S.row y10 1 17 l1 8 refl, refl) refl refl λ b o k. tt) (pre (λ Ψ.
+            Ψ) (begin 18 _) (seq (Typed.give s127) (Reborrow.t-mref-relend U H A W E C _ 6 38 4 18 (Array'.Array L.u64 6912) y13 y0 y3 l3 (λ x. x) (as-is r12) (gone y3) refl tt refl refl λ b
+            o. tt) (stm tt (post (post (post (post (post (post (post (post (post (post (Plain.t-call-plain U H A W C 4 ps·8 r·8 (cl .16) (cl .17) "session::do_list" (known .8) E (λ pos β. β)
+            _
             (record { pos = 1; st = []; d = 0; at = λ x. x }, (record { pos = 35; ty = y4; ref = λ x. x }, (record { pos = 37; ty = y11; ref = λ x. x }, (record { pos = 4; ty = y7; ref = λ x. x }, (Bool.bLit Bool'.false, (record { pos = 38; ty = y3; ref = λ x. x }, tt))))))
             19 (16 ∷ 17 ∷ 2 ∷ 18 ∷ []) (Call.sub-id U H A W _)
             ((copied (Declared'.row Session.the-type) refl (Copies.cStruct Session.the-type Session′.the-laws Session′.the-copy .copy U H A W), refl), (as-is r17, Reads'.reads-mref U H A W (Array'.Array L.u64 928) y4 16, refl, (as-is r40, Mut.reads-mslice U H A W S.row y11 17, refl, (ShrSlice.spares-sslice U H A W L.u8 y7 2, Shared.reads-sslice U H A W L.u8 y7 2, refl, (tt, (as-is (Rows'.mref (Array'.Array L.u64 6912) y3 18), Reads'.reads-mref U H A W (Array'.Array L.u64 6912) y3 18, refl, tt))))))
@@ -1592,16 +1783,17 @@ module _ (cl : Claims) where
             (Rows'.mref-owed (Array'.Array L.u64 6912) y0 4 18 l3)) refl refl)) (forget 18 Row.dead refl)))))))))
 
         d75 : Typed.Typed U H A C E G16 b65 Δ2 at75
-        d75 = pre (Known.g-enum-told U H A W E Op.enum 5 _ 9 λ x. x) (pre (room 9 Op′.mir (Local.room-whole U H A W (Declared.row Op.the-type) Op′.mir refl)) (pre (room 10 y16 (Init.room-arr
-            U H A W L.u8 16 0 16 refl)) d72))
+        d75 = pre (Typed.both s118) (Known.g-enum-told U H A W E Op.enum 5 _ 9 λ x. x) (pre (Typed.pass T16 T123 s119) (room 9 Op′.mir (Local.room-whole U H A W (Declared.row Op.the-type)
+            Op′.mir refl)) (pre (Typed.pass T123 T8 s120) (room 10 y16 (Init.room-arr U H A W L.u8 16 0 16 refl)) d72))
 
         d83 : Typed.Typed U H A C E G8 b74 Δ2 at83
-        d83 = pre (begin 19 _) (seq (Reborrow.t-mref-relend U H A W E C _ 2 39 0 19 (Array'.Array L.u64 928) y14 y1 y4 l0 (λ x. x) (as-is r13) (gone y4) refl tt refl refl λ b o. tt) (pre
-            (begin 20 _) (seq (Relend.t-sl-relend U H A W E S.row C _ 3 40 1 20 y10 y11 l1 0 (λ x. x) (as-is r35) (gone y11) refl tt refl refl refl λ b o. tt) (seq (Relend.t-sl-aggregate U H
-            A W E S.row C (Relend.asMut S.row) _ 40 41 20 y11 y11 (λ x. x) (Scalar.oFld 3 (Y.field 1 ∷ []) (Y.tyInt Y.w64) 8 λ v. Shared.lenV (v .0)) (as-is (Relend.msptr S.row y11 20))
-            (gone y9) (Relend.reads-owed-len U H A W S.row y10 1 20 l1 8 refl, refl) refl refl λ b o k. tt) (pre (begin 21 _) (seq (Reborrow.t-mref-relend U H A W E C _ 6 42 4 21
-            (Array'.Array L.u64 6912) y13 y0 y3 l3 (λ x. x) (as-is r12) (gone y3) refl tt refl refl λ b o. tt) (stm tt (post (post (post (post (post (post (post (post (post (post
-            (Plain.t-call-plain U H A W C 4 ps·8 r·8 (cl .16) (cl .17) "session::do_list" (known .8) E (λ pos β. β) _
+        d83 = pre (λ Ψ. Ψ) (begin 19 _) (seq (Typed.give s143) (Reborrow.t-mref-relend U H A W E C _ 2 39 0 19 (Array'.Array L.u64 928) y14 y1 y4 l0 (λ x. x) (as-is r13) (gone y4) refl tt
+            refl refl λ b o. tt) (pre (λ Ψ. Ψ) (begin 20 _) (seq (Typed.give s145) (Relend.t-sl-relend U H A W E S.row C _ 3 40 1 20 y10 y11 l1 0 (λ x. x) (as-is r35) (gone y11) refl tt refl
+            refl refl λ b o. tt) (seq (Typed.ask s146) (Relend.t-sl-aggregate U H A W E S.row C (Relend.asMut S.row) _ 40 41 20 y11 y11 (λ x. x) (Scalar.oFld 3 (Y.field 1 ∷ []) (Y.tyInt
+            Y.w64) 8 λ v. Shared.lenV (v .0)) (as-is (Relend.msptr S.row y11 20)) (gone y9) (Relend.reads-owed-len U H A W S.row y10 1 20 l1 8 refl, refl) refl refl λ b o k. tt) (pre (λ Ψ.
+            Ψ) (begin 21 _) (seq (Typed.give s148) (Reborrow.t-mref-relend U H A W E C _ 6 42 4 21 (Array'.Array L.u64 6912) y13 y0 y3 l3 (λ x. x) (as-is r12) (gone y3) refl tt refl refl λ b
+            o. tt) (stm tt (post (post (post (post (post (post (post (post (post (post (Plain.t-call-plain U H A W C 4 ps·8 r·8 (cl .16) (cl .17) "session::do_list" (known .8) E (λ pos β. β)
+            _
             (record { pos = 1; st = []; d = 0; at = λ x. x }, (record { pos = 39; ty = y4; ref = λ x. x }, (record { pos = 41; ty = y11; ref = λ x. x }, (record { pos = 4; ty = y7; ref = λ x. x }, (Bool.bLit Bool'.true, (record { pos = 42; ty = y3; ref = λ x. x }, tt))))))
             19 (19 ∷ 20 ∷ 2 ∷ 21 ∷ []) (Call.sub-id U H A W _)
             ((copied (Declared'.row Session.the-type) refl (Copies.cStruct Session.the-type Session′.the-laws Session′.the-copy .copy U H A W), refl), (as-is r19, Reads'.reads-mref U H A W (Array'.Array L.u64 928) y4 19, refl, (as-is r41, Mut.reads-mslice U H A W S.row y11 20, refl, (ShrSlice.spares-sslice U H A W L.u8 y7 2, Shared.reads-sslice U H A W L.u8 y7 2, refl, (tt, (as-is (Rows'.mref (Array'.Array L.u64 6912) y3 21), Reads'.reads-mref U H A W (Array'.Array L.u64 6912) y3 21, refl, tt))))))
@@ -1612,18 +1804,20 @@ module _ (cl : Claims) where
             (Rows'.mref-owed (Array'.Array L.u64 6912) y0 4 21 l3)) refl refl)) (forget 21 Row.dead refl)))))))))
 
         d86 : Typed.Typed U H A C E G16 b74 Δ2 at86
-        d86 = pre (Known.g-enum-told U H A W E Op.enum 6 _ 9 λ x. x) (pre (room 9 Op′.mir (Local.room-whole U H A W (Declared.row Op.the-type) Op′.mir refl)) (pre (room 10 y16 (Init.room-arr
-            U H A W L.u8 16 0 16 refl)) d83))
+        d86 = pre (Typed.both s139) (Known.g-enum-told U H A W E Op.enum 6 _ 9 λ x. x) (pre (Typed.pass T16 T123 s119) (room 9 Op′.mir (Local.room-whole U H A W (Declared.row Op.the-type)
+            Op′.mir refl)) (pre (Typed.pass T123 T8 s120) (room 10 y16 (Init.room-arr U H A W L.u8 16 0 16 refl)) d83))
 
         d94 : Typed.Typed U H A C E G16 b79 Δ2 at94
-        d94 = pre (Known.g-enum-known U H A W E Op.enum 7 _ 9 (λ x. x) (as-is r52)) (pre (Known.g-known-told U H A W E Op.enum 7 _ 9 Op′.the-laws (λ x. x) (as-is (Rows'.whole (Known.Known
-            Op.enum 7)))) (pre (room 10 y16 (Init.room-arr U H A W L.u8 16 0 16 refl)) (seq (Scalar.t-use U H A W E C _ (Scalar.oFld 9 (Y.variant 7 ∷ Y.field 1 ∷ []) (Y.tyInt Y.w64) 8 λ v.
-            Op′.the-laws .1 .1 .1 .1 .1 .1 .1 .0 .0 .val (v .0)) 17 L.h64 (Y.tyInt Y.w64) (Row.valS (Row.sInt Y.w64)) (Row.sInt Y.w64 .of)
+        d94 = pre (Typed.both s160) (Known.g-enum-known U H A W E Op.enum 7 _ 9 (λ x. x) (as-is r52)) (pre (Typed.give s161) (Known.g-known-told U H A W E Op.enum 7 _ 9 Op′.the-laws (λ x. x)
+            (as-is (Rows'.whole (Known.Known Op.enum 7)))) (pre (Typed.pass T164 T166 s162) (room 10 y16 (Init.room-arr U H A W L.u8 16 0 16 refl)) (seq (Typed.pass T166 T167 s163)
+            (Scalar.t-use U H A W E C _ (Scalar.oFld 9 (Y.variant 7 ∷ Y.field 1 ∷ []) (Y.tyInt Y.w64) 8 λ v. Op′.the-laws .1 .1 .1 .1 .1 .1 .1 .0 .0 .val (v .0)) 17 L.h64 (Y.tyInt Y.w64)
+            (Row.valS (Row.sInt Y.w64)) (Row.sInt Y.w64 .of)
             (Match.reads-payload U H A W Op.enum Op′.the-laws 7 refl refl (λ v. Val.vcons (Op′.the-laws .1 .1 .1 .1 .1 .1 .1 .0 .0 .val (v .0)) Val.vnil) (λ v. refl) 0 (Y.tyInt Y.w64) 8 refl, refl)
-            (gone (Y.tyInt Y.w64)) (Scalar.holds-sc U H A W (Row.sInt Y.w64)) refl (λ u. refl) λ u. tt) (pre (room 9 Op′.mir (Local.room-whole U H A W (Known.Known Op.enum 7) Op′.mir refl))
-            (pre (begin 22 _) (seq (Reshare.t-mref-reshare U H A W E C _ 2 43 0 22 (Array'.Array L.u64 928) y14 y1 y6 l0 (λ x. x) (as-is r13) (gone y6) refl tt refl refl λ b o. tt) (stm tt
-            (post (post (post (post (post (post (Plain.t-call-plain U H A W C 1 ps·9 r·5 (cl .18) (cl .19) "session::do_next_key" (known .9) E (λ pos β. β) _
-            (record { pos = 1; st = []; d = 0; at = λ x. x }, (record { pos = 43; ty = y6; ref = λ x. x }, (Num.vAt 17 λ x. x, tt))) 19 (22 ∷ []) (Call.sub-id U H A W _)
+            (gone (Y.tyInt Y.w64)) (Scalar.holds-sc U H A W (Row.sInt Y.w64)) refl (λ u. refl) λ u. tt) (pre (Typed.pass T167 T168 s164) (room 9 Op′.mir (Local.room-whole U H A W
+            (Known.Known Op.enum 7) Op′.mir refl)) (pre (λ Ψ. Ψ) (begin 22 _) (seq (Typed.give s166) (Reshare.t-mref-reshare U H A W E C _ 2 43 0 22 (Array'.Array L.u64 928) y14 y1 y6 l0 (λ
+            x. x) (as-is r13) (gone y6) refl tt refl refl λ b o. tt) (stm tt (post (post (post (post (post (post (Plain.t-call-plain U H A W C 1 ps·9 r·5 (cl .18) (cl .19)
+            "session::do_next_key" (known .9) E (λ pos β. β) _ (record { pos = 1; st = []; d = 0; at = λ x. x }, (record { pos = 43; ty = y6; ref = λ x. x }, (Num.vAt 17 λ x. x, tt))) 19 (22
+            ∷ []) (Call.sub-id U H A W _)
             ((copied (Declared'.row Session.the-type) refl (Copies.cStruct Session.the-type Session′.the-laws Session′.the-copy .copy U H A W), refl), (ShrRef.spares-sref U H A W (Array'.Array L.u64 928) y6 22, Reads'.reads-sref U H A W (Array'.Array L.u64 928) y6 22, refl, ((Scalar.reads-sc U H A W (Row.sInt Y.w64), refl), tt)))
             (gone Replied′.mir) (tt, tt) refl) (Local.g-drop-sref U H A W E _ 43 22 (Array'.Array L.u64 928) y6 (λ x. x) (as-is (Rows'.sref (Array'.Array L.u64 928) y6 22)))) (room 1
             Session′.mir (Local.room-whole U H A W (Declared'.row Session.the-type) Session′.mir refl))) (room 17 (Y.tyInt Y.w64) (Scalar.room-sc U H A W (Row.sInt Y.w64)))) (end 22 refl))
@@ -1631,63 +1825,65 @@ module _ (cl : Claims) where
             Row.dead refl)))))))))
 
         d98 : Typed.Typed U H A C E G16 b80 Δ2 at98
-        d98 = pre (Known.g-enum-told U H A W E Op.enum 8 _ 9 λ x. x) (pre (room 9 Op′.mir (Local.room-whole U H A W (Declared.row Op.the-type) Op′.mir refl)) (pre (room 10 y16 (Init.room-arr
-            U H A W L.u8 16 0 16 refl)) (stm tt (post (Plain.t-call-plain U H A W C 0 ps·2 r·2 (cl .4) (cl .5) "replies::declined" (known .2) E (λ pos β. β) _
-            (record { pos = 1; st = []; d = 0; at = λ x. x }, (Num.vLit 1, tt)) 19 [] (Call.sub-id U H A W _)
+        d98 = pre (Typed.both s174) (Known.g-enum-told U H A W E Op.enum 8 _ 9 λ x. x) (pre (Typed.pass T16 T123 s119) (room 9 Op′.mir (Local.room-whole U H A W (Declared.row Op.the-type)
+            Op′.mir refl)) (pre (Typed.pass T123 T8 s120) (room 10 y16 (Init.room-arr U H A W L.u8 16 0 16 refl)) (stm tt (post (Plain.t-call-plain U H A W C 0 ps·2 r·2 (cl .4) (cl .5)
+            "replies::declined" (known .2) E (λ pos β. β) _ (record { pos = 1; st = []; d = 0; at = λ x. x }, (Num.vLit 1, tt)) 19 [] (Call.sub-id U H A W _)
             ((copied (Declared'.row Session.the-type) refl (Copies.cStruct Session.the-type Session′.the-laws Session′.the-copy .copy U H A W), refl), (tt, tt)) (gone Replied′.mir) tt refl)
             (room 1 Session′.mir (Local.room-whole U H A W (Declared'.row Session.the-type) Session′.mir refl))))))
 
         d100 : Typed.Typed U H A C E (lives z0 T14) b81 Δ2 at100
-        d100 = pre (room 7 Request′.mir (Local.room-whole U H A W (Declared'.row Request.the-type) Request′.mir refl)) (Switch.t-switch-on U H A W E C _ (Scalar.oFld 9 (Y.variant 0 ∷ Y.field
-            0 ∷ []) (Y.tyInt Y.w8) 0 λ x. Val.vint Y.w8 (Declared.tagOf Op.the-type x)) Y.w8 (λ u. Declared.tagOf Op.the-type (u .1 .1 .1 .1 .1 .1 .1 .1 .1 .0)) (Y.arm (0 ∷ []) b18 (Y.arm (1
-            ∷ []) b27 (Y.arm (2 ∷ []) b32 (Y.arm (3 ∷ []) b43 (Y.arm (4 ∷ []) b56 (Y.arm (5 ∷ []) b65 (Y.arm (6 ∷ []) b74 (Y.arm (7 ∷ []) b79 (Y.arm (8 ∷ []) b80 Y.noDefault))))))))) Δ2
-            (at19, (at29, (at37, (at50, (at64, (at75, (at86, (at94, (at98, tt)))))))))
+        d100 = pre (Typed.pass T14 T16 s12) (room 7 Request′.mir (Local.room-whole U H A W (Declared'.row Request.the-type) Request′.mir refl)) (Switch.t-switch-on U H A W E C _ (Scalar.oFld
+            9 (Y.variant 0 ∷ Y.field 0 ∷ []) (Y.tyInt Y.w8) 0 λ x. Val.vint Y.w8 (Declared.tagOf Op.the-type x)) Y.w8 (λ u. Declared.tagOf Op.the-type (u .1 .1 .1 .1 .1 .1 .1 .1 .1 .0))
+            (Y.arm (0 ∷ []) b18 (Y.arm (1 ∷ []) b27 (Y.arm (2 ∷ []) b32 (Y.arm (3 ∷ []) b43 (Y.arm (4 ∷ []) b56 (Y.arm (5 ∷ []) b65 (Y.arm (6 ∷ []) b74 (Y.arm (7 ∷ []) b79 (Y.arm (8 ∷ [])
+            b80 Y.noDefault))))))))) Δ2 (at19, (at29, (at37, (at50, (at64, (at75, (at86, (at94, (at98, tt)))))))))
             (Match.reads-tag U H A W Op.the-type Op′.the-laws r52 0 (λ x. x) (Whole.reads-enum U H A W Op.the-type Op′.the-laws), refl) (λ u. refl)
             (d19, (d29, (d37, (d50, (d64, (d75, (d86, (d94, (d98, tt))))))))))
 
         d104 : Typed.Typed U H A C E G15 b84 Δ0 at104
-        d104 = seq (LocalCopy.t-val-copy U H A W E C (λ ρ. Unit) _ 19 0 (Declared'.row Replied.the-type) Replied′.mir Replied′.mir r48 r48 (λ x. x) (λ x. x) (λ x. x) refl (Own.told-none U H
-            A (G15 .slots)) (copied (Declared'.row Replied.the-type) refl (Copies.cStruct Replied.the-type Replied′.the-laws Replied′.the-copy .copy U H A W)) (gone Replied′.mir)
-            (Yields.makes-mem U H A W (λ ρ. Unit) (Declared'.row Replied.the-type) refl r48 (λ x. x) λ ρ told. Local.whole-mem U H A W (Declared'.row Replied.the-type) ρ) refl refl) (pre
-            (room 8 (Y.tyInt Y.w64) (Scalar.room-sc U H A W (Row.sInt Y.w64))) (pre (room 19 Replied′.mir (Local.room-whole U H A W (Declared'.row Replied.the-type) Replied′.mir refl))
-            (Typed.t-return U H A W C E Δ0 tt)))
+        d104 = seq (Typed.pass T15 T183 s179) (LocalCopy.t-val-copy U H A W E C (λ ρ. Unit) _ 19 0 (Declared'.row Replied.the-type) Replied′.mir Replied′.mir r48 r48 (λ x. x) (λ x. x) (λ x.
+            x) refl (Own.told-none U H A (G15 .slots)) (copied (Declared'.row Replied.the-type) refl (Copies.cStruct Replied.the-type Replied′.the-laws Replied′.the-copy .copy U H A W))
+            (gone Replied′.mir) (Yields.makes-mem U H A W (λ ρ. Unit) (Declared'.row Replied.the-type) refl r48 (λ x. x) λ ρ told. Local.whole-mem U H A W (Declared'.row Replied.the-type) ρ)
+            refl refl) (pre (Typed.pass T183 T184 s180) (room 8 (Y.tyInt Y.w64) (Scalar.room-sc U H A W (Row.sInt Y.w64))) (pre (Typed.pass T184 T1 s181) (room 19 Replied′.mir
+            (Local.room-whole U H A W (Declared'.row Replied.the-type) Replied′.mir refl)) (Typed.t-return U H A W C E Δ0 tt)))
 
         d107 : Typed.Typed U H A C E G4 b87 Δ0 at107
-        d107 = seq (CopyOut.t-copy-told U H A W E C (Declared.row Op.the-type) refl (Laws'7.val Op.the-type Op′.the-laws) (Laws'7.lawful Op.the-type Op′.the-laws U H A W tt) (Laws'7.makes
-            Op.the-type Op′.the-plain U H A) _ 9 (Scalar.oFld 7 (Y.field 0 ∷ []) Op′.mir 0 λ x. Laws'7.val Op.the-type Op′.the-laws (Request.struct .as-values x .0)) (λ m. Request.struct
-            .as-values (m .1 .1 .1 .1 .1 .1 .1 .0) .0) (λ m. Laws'8.Is (Declared'.row Request.the-type) (m .1 .1 .1 .1 .1 .1 .1 .0) (Laws'9.vals Request.the-type Request′.the-laws (m .1 .1
-            .1 .1 .1 .1 .1 .0))) (gone Op′.mir) (Reads.reads-field U H A W Request.the-type Request′.the-laws 0 Op′.mir 0 refl, refl) refl (λ ρ m. Make.tells-row U H A W E ρ (Row.out 9 (G4
-            .locals)) m 7 (Laws'8.Is (Declared'.row Request.the-type) (m .1 .1 .1 .1 .1 .1 .1 .0) (Laws'9.vals Request.the-type Request′.the-laws (m .1 .1 .1 .1 .1 .1 .1 .0))) (Make.whole-is
-            U H A W E (Declared'.row Request.the-type) refl (Laws'9.val Request.the-type Request′.the-laws) (Laws'9.tells Request.the-type Request′.the-laws) ρ 7 (m .1 .1 .1 .1 .1 .1 .1
-            .0))) (λ m k wa. refl) λ m k wa. Laws'9.owed Request.the-type Request′.the-laws (m .1 .1 .1 .1 .1 .1 .1 .0) (Laws'9.vals Request.the-type Request′.the-laws (m .1 .1 .1 .1 .1 .1
-            .1 .0)) k .0) (seq (WayStmt.t-way-copy-out U H A W E C (Array'.Array L.u8 16) refl (Copies.cArr L.u8 (Copies.cRf (Referent.fInt Y.w8)) 16 .copy U H A W) (λ ρ. Unit) _ (Row.out 7
-            (G13 .locals)) (λ u. Row.drop 7 (G13 .locals) u) (G13 .slots) 7 (λ t. Y.field 1 ∷ t) y16 y16 10 r64 (λ x. x) (λ u. At.getAt (Request.the-type .parts) 1 (Request.struct .as-values
-            (u .1 .1 .1 .1 .1 .1 .1 .0))) (λ u. (Row.rd 0 7 bs, Nat._+_ 0 40)) (λ T′. record { locals = Row.setRow 7 (7, r49) T′; slots = G13 .slots }) (λ u T′ m′. Row.set 7 (7, r49) (u .1
-            .1 .1 .1 .1 .1 .1 .0) T′ m′) (λ u. Unit) (λ x. Unit) (Own.told-none U H A (G13 .slots)) (DerefMove.learns-nothing U H A (Array'.Array L.u8 16)) (λ ρ told u asked. Way'.w-partˢ U
-            H A W E (Declared'.row Request.the-type) (Array'.Array L.u8 16) Request′.mir y16 1 40 (u .1 .1 .1 .1 .1 .1 .1 .0) (At.getAt (Request.the-type .parts) 1 (Request.struct .as-values
-            (u .1 .1 .1 .1 .1 .1 .1 .0))) (Row.rd 0 7 bs, 0) (Way.w-look U H A W E (Way.w-local U H A W E _ ρ u (G13 .slots) 7 (Declared'.row Request.the-type) r49 (λ x. x) (λ x. x) (u .1 .1
-            .1 .1 .1 .1 .1 .0) (Local.mem-whole U H A W (Declared'.row Request.the-type) ρ (u .1 .1 .1 .1 .1 .1 .1 .0) (Row.rd 0 7 bs)) (Local.whole-mem U H A W (Declared'.row
-            Request.the-type) ρ (u .1 .1 .1 .1 .1 .1 .1 .0) (Row.rd 0 7 bs)))) refl λ q. Items.cut-array U H A q (Declared'.row Request.the-type) L.u8 16 40 (u .1 .1 .1 .1 .1 .1 .1 .0) (u .1
-            .1 .1 .1 .1 .1 .1 .0) (At.getAt (Request.the-type .parts) 1 (Request.struct .as-values (u .1 .1 .1 .1 .1 .1 .1 .0))) (At.getAt (Request.the-type .parts) 1 (Request.struct
-            .as-values (u .1 .1 .1 .1 .1 .1 .1 .0))) (Row.rd 0 7 bs, 0) (Behind.look-at U H A W q Request.the-type Request′.the-laws 1 40 refl refl (Row.rd 0 7 bs, 0) (u .1 .1 .1 .1 .1 .1 .1
-            .0) (Request.struct .as-values (u .1 .1 .1 .1 .1 .1 .1 .0)) refl)) (gone y16) (Yields.makes-mem U H A W (λ ρ. Unit) (Array'.Array L.u8 16) refl r64 (λ x. x) λ ρ told.
-            Whole'.arr-mem U H A W L.u8 16 tt ρ) refl refl refl) (Typed.t-seq U H A W C E _ _ b81 b84 Δ0 at100 at104 d100 d104))
+        d107 = seq (Typed.pass T4 T13 s10) (CopyOut.t-copy-told U H A W E C (Declared.row Op.the-type) refl (Laws'7.val Op.the-type Op′.the-laws) (Laws'7.lawful Op.the-type Op′.the-laws U H
+            A W tt) (Laws'7.makes Op.the-type Op′.the-plain U H A) _ 9 (Scalar.oFld 7 (Y.field 0 ∷ []) Op′.mir 0 λ x. Laws'7.val Op.the-type Op′.the-laws (Request.struct .as-values x .0)) (λ
+            m. Request.struct .as-values (m .1 .1 .1 .1 .1 .1 .1 .0) .0) (λ m. Laws'8.Is (Declared'.row Request.the-type) (m .1 .1 .1 .1 .1 .1 .1 .0) (Laws'9.vals Request.the-type
+            Request′.the-laws (m .1 .1 .1 .1 .1 .1 .1 .0))) (gone Op′.mir) (Reads.reads-field U H A W Request.the-type Request′.the-laws 0 Op′.mir 0 refl, refl) refl (λ ρ m. Make.tells-row U
+            H A W E ρ (Row.out 9 (G4 .locals)) m 7 (Laws'8.Is (Declared'.row Request.the-type) (m .1 .1 .1 .1 .1 .1 .1 .0) (Laws'9.vals Request.the-type Request′.the-laws (m .1 .1 .1 .1 .1
+            .1 .1 .0))) (Make.whole-is U H A W E (Declared'.row Request.the-type) refl (Laws'9.val Request.the-type Request′.the-laws) (Laws'9.tells Request.the-type Request′.the-laws) ρ 7
+            (m .1 .1 .1 .1 .1 .1 .1 .0))) (λ m k wa. refl) λ m k wa. Laws'9.owed Request.the-type Request′.the-laws (m .1 .1 .1 .1 .1 .1 .1 .0) (Laws'9.vals Request.the-type
+            Request′.the-laws (m .1 .1 .1 .1 .1 .1 .1 .0)) k .0) (seq (Typed.both s11) (WayStmt.t-way-copy-out U H A W E C (Array'.Array L.u8 16) refl (Copies.cArr L.u8 (Copies.cRf
+            (Referent.fInt Y.w8)) 16 .copy U H A W) (λ ρ. Unit) _ (Row.out 7 (G13 .locals)) (λ u. Row.drop 7 (G13 .locals) u) (G13 .slots) 7 (λ t. Y.field 1 ∷ t) y16 y16 10 r64 (λ x. x) (λ
+            u. At.getAt (Request.the-type .parts) 1 (Request.struct .as-values (u .1 .1 .1 .1 .1 .1 .1 .0))) (λ u. (Row.rd 0 7 bs, Nat._+_ 0 40)) (λ T′. record
+            { locals = Row.setRow 7 (7, r49) T′; slots = G13 .slots }) (λ u T′ m′. Row.set 7 (7, r49) (u .1 .1 .1 .1 .1 .1 .1 .0) T′ m′) (λ u. Unit) (λ x. Unit) (Own.told-none U H A (G13
+            .slots)) (DerefMove.learns-nothing U H A (Array'.Array L.u8 16)) (λ ρ told u asked. Way'.w-partˢ U H A W E (Declared'.row Request.the-type) (Array'.Array L.u8 16) Request′.mir
+            y16 1 40 (u .1 .1 .1 .1 .1 .1 .1 .0) (At.getAt (Request.the-type .parts) 1 (Request.struct .as-values (u .1 .1 .1 .1 .1 .1 .1 .0))) (Row.rd 0 7 bs, 0) (Way.w-look U H A W E
+            (Way.w-local U H A W E _ ρ u (G13 .slots) 7 (Declared'.row Request.the-type) r49 (λ x. x) (λ x. x) (u .1 .1 .1 .1 .1 .1 .1 .0) (Local.mem-whole U H A W (Declared'.row
+            Request.the-type) ρ (u .1 .1 .1 .1 .1 .1 .1 .0) (Row.rd 0 7 bs)) (Local.whole-mem U H A W (Declared'.row Request.the-type) ρ (u .1 .1 .1 .1 .1 .1 .1 .0) (Row.rd 0 7 bs)))) refl λ
+            q. Items.cut-array U H A q (Declared'.row Request.the-type) L.u8 16 40 (u .1 .1 .1 .1 .1 .1 .1 .0) (u .1 .1 .1 .1 .1 .1 .1 .0) (At.getAt (Request.the-type .parts) 1
+            (Request.struct .as-values (u .1 .1 .1 .1 .1 .1 .1 .0))) (At.getAt (Request.the-type .parts) 1 (Request.struct .as-values (u .1 .1 .1 .1 .1 .1 .1 .0))) (Row.rd 0 7 bs, 0)
+            (Behind.look-at U H A W q Request.the-type Request′.the-laws 1 40 refl refl (Row.rd 0 7 bs, 0) (u .1 .1 .1 .1 .1 .1 .1 .0) (Request.struct .as-values (u .1 .1 .1 .1 .1 .1 .1 .0))
+            refl)) (gone y16) (Yields.makes-mem U H A W (λ ρ. Unit) (Array'.Array L.u8 16) refl r64 (λ x. x) λ ρ told. Whole'.arr-mem U H A W L.u8 16 tt ρ) refl refl refl) (Typed.t-seq U H A
+            W C E _ _ b81 b84 Δ0 at100 at104 d100 d104))
 
         d109 : Typed.Typed U H A C E G4 b89 Δ0 at109
-        d109 = seq (Scalar.t-op2 U H A W E C _ Y.ne (Scalar.oAt 8 (Y.tyInt Y.w64) (Row.valS (Row.sInt Y.w64))) (Scalar.oInt Y.w64 0) 18 L.hbool Y.tyBool (Row.valS Row.sBool) (Row.sBool .of)
-            (Scalar.reads-sc U H A W (Row.sInt Y.w64), refl) tt (gone Y.tyBool) (Scalar.holds-sc U H A W Row.sBool) refl (λ u. refl) λ u. tt) (Typed.t-seq U H A W C E _ _ b7 b87 Δ0 at8 at107
-            d8 d107)
+        d109 = seq (Typed.ask s3) (Scalar.t-op2 U H A W E C _ Y.ne (Scalar.oAt 8 (Y.tyInt Y.w64) (Row.valS (Row.sInt Y.w64))) (Scalar.oInt Y.w64 0) 18 L.hbool Y.tyBool (Row.valS Row.sBool)
+            (Row.sBool .of) (Scalar.reads-sc U H A W (Row.sInt Y.w64), refl) tt (gone Y.tyBool) (Scalar.holds-sc U H A W Row.sBool) refl (λ u. refl) λ u. tt) (Typed.t-seq U H A W C E _ _ b7
+            b87 Δ0 at8 at107 d8 d107)
 
         d110 : Typed.Typed U H A C E (lives z0 T3) b90 Δ0 at110
-        d110 = seq (Plain.t-call-plain U H A W C 0 ps·1 r·1 (cl .2) (cl .3) "replies::refusal" (known .1) E (λ pos β. β) _
+        d110 = seq (Typed.both s2) (Plain.t-call-plain U H A W C 0 ps·1 r·1 (cl .2) (cl .3) "replies::refusal" (known .1) E (λ pos β. β) _
             (record { pos = 1; st = []; d = 0; at = λ x. x }, (record { pos = 7; st = []; d = 0; at = λ x. x }, tt)) 8 [] (Call.sub-id U H A W _)
             ((copied (Declared'.row Session.the-type) refl (Copies.cStruct Session.the-type Session′.the-laws Session′.the-copy .copy U H A W), refl), ((copied (Declared'.row Request.the-type) refl (Copies.cStruct Request.the-type Request′.the-laws Request′.the-copy .copy U H A W), refl), tt))
             (gone (Y.tyInt Y.w64)) tt refl) d109
 
         d112 : Typed.Typed U H A C E (lives z0 T0) b91 Δ0 at112
-        d112 = pre (Know.g-shs-known U H A W (Referent.fInt Y.w8) E _ 4 2 y7 (Row.lease (κs .1 .1 .0) (qs .1 .1 .0)) 0 (λ x. x) record { fits = Dec'.lit< tt } (as-is r34) refl tt) (seq
-            (Plain.t-call-plain U H A W C 1 ps·0 r·0 (cl .0) (cl .1) "records::decode" (known .0) E (λ pos β. β) _ (record { pos = 4; ty = y7; ref = λ x. x }, tt) 7 (2 ∷ []) (Call.sub-id U H
-            A W _) (ShrSlice.spares-sslice U H A W L.u8 y7 2, Shared.reads-sslice U H A W L.u8 y7 2, refl, tt) (gone Request′.mir) (tt, tt) refl) d110)
+        d112 = pre (Typed.give s0) (Know.g-shs-known U H A W (Referent.fInt Y.w8) E _ 4 2 y7 (Row.lease (κs .1 .1 .0) (qs .1 .1 .0)) 0 (λ x. x) record { fits = Dec'.lit< tt } (as-is r34)
+            refl tt) (seq (Typed.both s1) (Plain.t-call-plain U H A W C 1 ps·0 r·0 (cl .0) (cl .1) "records::decode" (known .0) E (λ pos β. β) _
+            (record { pos = 4; ty = y7; ref = λ x. x }, tt) 7 (2 ∷ []) (Call.sub-id U H A W _) (ShrSlice.spares-sslice U H A W L.u8 y7 2, Shared.reads-sslice U H A W L.u8 y7 2, refl, tt)
+            (gone Request′.mir) (tt, tt) refl) d110)
 
         pub typed : Typed.Typed U H A C E (Function.Γin 5 ps r xs m κs qs) b91 (Function.Δret 5 ps r xs m κs qs) (Φ bs)
         typed = d112

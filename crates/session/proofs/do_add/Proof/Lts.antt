@@ -80,6 +80,9 @@ y1 = Y.tyRef Y.erased Y.mut y4
 abbrev y0 : Y.Ty
 y0 = Y.tyRef (Y.named 0) Y.mut y4
 
+abbrev r0 : Row.Row
+r0 = Rows'.mref-owed (Array'.Array L.u64 928) y0 0 2 Row.off
+
 abbrev r1 : Row.Row
 r1 = Rows'.mref (Array'.Array L.u64 928) y0 0
 
@@ -91,6 +94,9 @@ r3 = Rows'.mleft (Array'.Array L.u64 928) y1
 
 abbrev r4 : Row.Row
 r4 = Relend.mslice-owed S.row y2 1 3 Row.off
+
+abbrev r5 : Row.Row
+r5 = Rows'.any-gone y1
 
 abbrev r6 : Row.Row
 r6 = Mut.mslice S.row y2 1
@@ -107,17 +113,26 @@ r9 = Mut.mslice S.row y3 3
 abbrev r10 : Row.Row
 r10 = Mut.msleft S.row y3
 
+abbrev r11 : Row.Row
+r11 = Rows'.any-gone y3
+
 abbrev r12 : Row.Row
 r12 = Rows'.whole (Declared.row AddOutcome.the-type)
 
 abbrev r13 : Row.Row
 r13 = Rows'.any-gone y5
 
+abbrev r14 : Row.Row
+r14 = Rows'.whole (Declared.row Arrival.the-type)
+
 abbrev r15 : Row.Row
 r15 = Rows'.whole (Declared.row Replied.the-type)
 
 abbrev r16 : Row.Row
 r16 = Rows'.whole (Declared.row Cache.the-type)
+
+abbrev r17 : Row.Row
+r17 = Rows'.any-gone AddOutcome′.mir
 
 abbrev r18 : Row.Row
 r18 = Rows'.any-gone Replied′.mir
@@ -130,6 +145,9 @@ r20 = Rows'.any-gone Arrival′.mir
 
 abbrev r21 : Row.Row
 r21 = Rows'.any-gone Cache′.mir
+
+abbrev r22 : Row.Row
+r22 = Rows.arrF L.u8 16 0
 
 abbrev pub ps : List.List (Kinds.PK 2)
 ps = (L.p Session.the-type Session′.the-laws Session′.the-copy Session′.the-plain) ∷ Kinds.pMut (Array'.Array L.u64 928) 0 tt ∷ MutSlice.pMutS S.row 1 tt ∷ (L.p Arrival.the-type
@@ -188,8 +206,19 @@ abbrev pub Claims : Type 1
 Claims = Kinds.In 0 ps·0 × Kinds.Out 0 ps·0 r·0 × Kinds.In 2 ps·1 × Kinds.Out 2 ps·1 r·1 × Kinds.In 0 ps·2 × Kinds.Out 0 ps·2 r·2
 
 abbrev t0 : List.List Row.Entry
-t0 = (0, r18) ∷ (1, Rows'.whole (Declared.row Session.the-type)) ∷ (2, r1) ∷ (3, r6) ∷ (4, (Rows'.whole (Declared.row Arrival.the-type))) ∷ (5, (Rows.arrF L.u8 16 0)) ∷ (6, r21) ∷ (7, L.g32)
-    ∷ (8, (Rows'.any-gone AddOutcome′.mir)) ∷ (9, (Rows'.any-gone y1)) ∷ (10, (Rows'.any-gone y3)) ∷ (11, r7) ∷ []
+t0 = (0, r18) ∷ (1, Rows'.whole (Declared.row Session.the-type)) ∷ (2, r1) ∷ (3, r6) ∷ (4, r14) ∷ (5, r22) ∷ (6, r21) ∷ (7, L.g32) ∷ (8, r17) ∷ (9, r5) ∷ (10, r11) ∷ (11, r7) ∷ []
+
+abbrev t1 : List.List Row.Entry
+t1 = (0, r15) ∷ (1, r19) ∷ (2, r1) ∷ (3, r6) ∷ (4, r20) ∷ (5, r13) ∷ (6, r21) ∷ (7, L.g32) ∷ (8, r17) ∷ (9, r5) ∷ (10, r11) ∷ (11, r7) ∷ []
+
+abbrev t5 : List.List Row.Entry
+t5 = (0, r18) ∷ (1, r19) ∷ (2, r0) ∷ (3, r6) ∷ (4, r14) ∷ (5, r22) ∷ (6, r16) ∷ (7, L.h32) ∷ (8, r17) ∷ (9, r2) ∷ (10, r11) ∷ (11, r7) ∷ []
+
+abbrev t8 : List.List Row.Entry
+t8 = (0, r18) ∷ (1, r19) ∷ (2, r0) ∷ (3, r4) ∷ (4, r14) ∷ (5, r22) ∷ (6, r16) ∷ (7, L.h32) ∷ (8, r12) ∷ (9, r3) ∷ (10, r11) ∷ (11, r10) ∷ []
+
+abbrev t12 : List.List Row.Entry
+t12 = (0, r18) ∷ (1, r19) ∷ (2, r1) ∷ (3, r4) ∷ (4, r20) ∷ (5, r13) ∷ (6, r21) ∷ (7, L.h32) ∷ (8, r12) ∷ (9, r5) ∷ (10, r11) ∷ (11, r10) ∷ []
 
 abbrev on : Nat.ℕ → Row.Row → Row.Cx → Row.Cx
 on n r Γ = record { locals = Row.setRow n (n, r) (Γ .locals); slots = Γ .slots }
@@ -201,7 +230,7 @@ abbrev T0 : Row.Cx
 T0 = record { locals = t0; slots = [] }
 
 abbrev T1 : Row.Cx
-T1 = on 5 r13 (on 4 r20 (on 1 r19 (on 0 r15 T0)))
+T1 = record { locals = t1; slots = [] }
 
 abbrev T2 : Row.Cx
 T2 = on 6 r16 T0
@@ -213,7 +242,7 @@ abbrev T4 : Row.Cx
 T4 = on 7 L.h32 T3
 
 abbrev T6 : Row.Cx
-T6 = on 9 r2 (on 2 (Rows'.mref-owed (Array'.Array L.u64 928) y0 0 2 Row.off) T4)
+T6 = record { locals = t5; slots = [] }
 
 abbrev T8 : Row.Cx
 T8 = on 10 r8 (on 3 r4 T6)
@@ -222,7 +251,7 @@ abbrev T9 : Row.Cx
 T9 = on 11 r9 (on 3 r4 T6)
 
 abbrev T10 : Row.Cx
-T10 = on 11 r10 (on 9 r3 (on 8 r12 T9))
+T10 = record { locals = t8; slots = [] }
 
 abbrev T11 : Row.Cx
 T11 = on 4 r20 T10
@@ -231,10 +260,10 @@ abbrev T12 : Row.Cx
 T12 = on 5 r13 T11
 
 abbrev T13 : Row.Cx
-T13 = on 11 r10 (on 9 r3 (on 8 r12 (on 6 r21 (on 5 r13 (on 4 r20 (on 3 r4 T6))))))
+T13 = on 6 r21 T12
 
 abbrev T15 : Row.Cx
-T15 = on 11 r10 (on 8 r12 (on 7 L.h32 (on 3 r4 (on 0 r18 T1))))
+T15 = record { locals = t12; slots = [] }
 
 abbrev T18 : Row.Cx
 T18 = on 11 r7 (on 3 r6 T15)
@@ -340,6 +369,10 @@ module _ (cl : Claims) where
       abbrev z1 : List.List Row.Life
       z1 = Row.off ∷ Row.off ∷ Row.alive ∷ Row.alive ∷ []
 
+      abbrev g10 : List.List Row.Entry
+      g10 = (0, r18) ∷ (1, r19) ∷ (2, Rows'.mref-owed (Array'.Array L.u64 928) y0 0 2 l0) ∷ (3, Relend.mslice-owed S.row y2 1 3 l1) ∷ (4, r20) ∷ (5, r13) ∷ (6, r16) ∷ (7, L.h32) ∷ (8, r12) ∷
+          (9, r3) ∷ (10, r11) ∷ (11, r10) ∷ []
+
       abbrev G0 : Row.Cx
       G0 = lives z0 T0
 
@@ -351,13 +384,13 @@ module _ (cl : Claims) where
         abbrev E : Wp.Env U H
         E = Frame.EnvOf U H (Kinds.tyR r ∷ (Enter.tysP ps xs)) bs
 
-        pre : {Γ Γ₁ : Row.Cx} {b : Y.Body} {Δ : Typed.Outs} {φ : Typed.Tf Γ Γ₁} {Φ : Typed.TF Γ₁ Δ} → Typed.Ghost U H A E Γ Γ₁ φ → Typed.Typed U H A C E Γ₁ b Δ Φ → Typed.Typed U H A C E Γ b
+        pre : {Γ Γ₁ : Row.Cx} {b : Y.Body} {Δ : Typed.Outs} {Φ : Typed.TF Γ₁ Δ} (φ : Typed.Tf Γ Γ₁) → Typed.Ghost U H A E Γ Γ₁ φ → Typed.Typed U H A C E Γ₁ b Δ Φ → Typed.Typed U H A C E Γ b
             Δ (λ Ψ. φ (Φ Ψ))
-        pre = Typed.g-pre U H A W C E _ _ _ _ _ _
+        pre φ = Typed.g-pre U H A W C E _ _ _ _ φ _
 
-        seq : {Γ Γ₁ : Row.Cx} {a b : Y.Body} {Δ : Typed.Outs} {φ : Typed.Tf Γ Γ₁} {Φ : Typed.TF Γ₁ Δ} → Typed.Stmt U H A C E Γ a Γ₁ φ → Typed.Typed U H A C E Γ₁ b Δ Φ → Typed.Typed U H A C E
+        seq : {Γ Γ₁ : Row.Cx} {a b : Y.Body} {Δ : Typed.Outs} {Φ : Typed.TF Γ₁ Δ} (φ : Typed.Tf Γ Γ₁) → Typed.Stmt U H A C E Γ a Γ₁ φ → Typed.Typed U H A C E Γ₁ b Δ Φ → Typed.Typed U H A C E
             Γ (Y.seq a b) Δ (λ Ψ. φ (Φ Ψ))
-        seq = Typed.s-seq U H A W C E _ _ _ _ _ _ _
+        seq φ = Typed.s-seq U H A W C E _ _ _ _ _ φ _
 
         begin : {Γ : Row.Cx} (α : Nat.ℕ) → Row.Fresh α (Γ .locals) → Typed.Ghost U H A E Γ (Lifetime.Begun Γ α) (Typed.pass Γ (Lifetime.Begun Γ α) (λ u. u))
         begin = Lifetime.g-begin U H A W E _
@@ -369,38 +402,38 @@ module _ (cl : Claims) where
         gone = Reads'.room-gone U H A
 
         d2 : Typed.Typed U H A C E (lives z0 T20) b7 Δ0 at2
-        d2 = pre (Scalar.g-room U H A W E _ 7 (Y.tyInt Y.w32) (Scalar.room-sc U H A W (Row.sInt Y.w32))) (pre (Scalar.g-room U H A W E _ 8 AddOutcome′.mir (Local.room-whole U H A W
-            (Declared.row AddOutcome.the-type) AddOutcome′.mir refl)) (Typed.t-return U H A W C E Δ0 tt))
+        d2 = pre (Typed.pass T20 T21 s19) (Scalar.g-room U H A W E _ 7 (Y.tyInt Y.w32) (Scalar.room-sc U H A W (Row.sInt Y.w32))) (pre (Typed.pass T21 T1 s20) (Scalar.g-room U H A W E _ 8
+            AddOutcome′.mir (Local.room-whole U H A W (Declared.row AddOutcome.the-type) AddOutcome′.mir refl)) (Typed.t-return U H A W C E Δ0 tt))
 
-        d10 : Typed.Typed U H A C E (lives z1 (on 11 r10 (on 9 r3 (on 8 r12 (on 5 r13 (on 4 r20 (on 3 (Relend.mslice-owed S.row y2 1 3 l1) (on 2 (Rows'.mref-owed (Array'.Array L.u64 928) y0
-            0 2 l0) T4)))))))) b8 Δ0 at10
-        d10 = pre (Scalar.g-room U H A W E _ 6 Cache′.mir (Local.room-whole U H A W (Declared.row Cache.the-type) Cache′.mir refl)) (pre (Lifetime.g-end U H A W E _ 2 refl) (pre
-            (Reborrow.g-back-mref U H A W E _ 9 2 0 2 (Array'.Array L.u64 928) y0 y1 l0 (λ x. x) (λ x. x) (as-is r3) (as-is (Rows'.mref-owed (Array'.Array L.u64 928) y0 0 2 l0)) refl refl)
-            (pre (Lifetime.g-forget U H A W E _ 2 Row.dead refl) (pre (Lifetime.g-end U H A W E _ 3 refl) (pre (Relend.g-back-sl U H A W E S.row _ 11 3 1 3 y2 y3 l1 (λ x. x) (λ x. x) (as-is
-            r10) (as-is (Relend.mslice-owed S.row y2 1 3 l1)) refl refl) (pre (Lifetime.g-forget U H A W E _ 3 Row.dead refl) (seq (Plain.t-call-plain U H A W C 0 ps·2 r·2 (cl .4) (cl .5)
-            "replies::add_done" (known .2) E (λ pos β. β) _ (record { pos = 8; st = []; d = 0; at = λ x. x }, tt) 0 [] (Call.sub-id U H A W _)
+        d10 : Typed.Typed U H A C E (record { locals = g10; slots = z1 }) b8 Δ0 at10
+        d10 = pre (Typed.pass T12 T13 s11) (Scalar.g-room U H A W E _ 6 Cache′.mir (Local.room-whole U H A W (Declared.row Cache.the-type) Cache′.mir refl)) (pre (λ Ψ. Ψ) (Lifetime.g-end U H
+            A W E _ 2 refl) (pre (Typed.ask s13) (Reborrow.g-back-mref U H A W E _ 9 2 0 2 (Array'.Array L.u64 928) y0 y1 l0 (λ x. x) (λ x. x) (as-is r3) (as-is (Rows'.mref-owed
+            (Array'.Array L.u64 928) y0 0 2 l0)) refl refl) (pre (λ Ψ. Ψ) (Lifetime.g-forget U H A W E _ 2 Row.dead refl) (pre (λ Ψ. Ψ) (Lifetime.g-end U H A W E _ 3 refl) (pre (Typed.both
+            s16) (Relend.g-back-sl U H A W E S.row _ 11 3 1 3 y2 y3 l1 (λ x. x) (λ x. x) (as-is r10) (as-is (Relend.mslice-owed S.row y2 1 3 l1)) refl refl) (pre (λ Ψ. Ψ) (Lifetime.g-forget
+            U H A W E _ 3 Row.dead refl) (seq (Typed.both s18) (Plain.t-call-plain U H A W C 0 ps·2 r·2 (cl .4) (cl .5) "replies::add_done" (known .2) E (λ pos β. β) _
+            (record { pos = 8; st = []; d = 0; at = λ x. x }, tt) 0 [] (Call.sub-id U H A W _)
             ((Yields.yields-copy U H A W (λ ρ. Unit) (Declared.row AddOutcome.the-type) refl (Copies.cStruct AddOutcome.the-type AddOutcome′.the-laws AddOutcome′.the-copy .copy U H A W) r12 (λ x. x) (λ x. x) (λ ρ told. Local.mem-whole U H A W (Declared.row AddOutcome.the-type) ρ) λ ρ told. Local.whole-mem U H A W (Declared.row AddOutcome.the-type) ρ, refl), tt)
             (gone Replied′.mir) tt refl) d2)))))))
 
         d12 : Typed.Typed U H A C E (lives z1 (on 3 (Relend.mslice-owed S.row y2 1 3 l1) (on 2 (Rows'.mref-owed (Array'.Array L.u64 928) y0 0 2 l0) T10))) b8 Δ0 at12
-        d12 = pre (Scalar.g-room U H A W E _ 4 Arrival′.mir (Local.room-whole U H A W (Declared.row Arrival.the-type) Arrival′.mir refl)) (pre (Scalar.g-room U H A W E _ 5 y5 (Init.room-arr
-            U H A W L.u8 16 0 16 refl)) d10)
+        d12 = pre (Typed.pass T10 T11 s9) (Scalar.g-room U H A W E _ 4 Arrival′.mir (Local.room-whole U H A W (Declared.row Arrival.the-type) Arrival′.mir refl)) (pre (Typed.pass T11 T12
+            s10) (Scalar.g-room U H A W E _ 5 y5 (Init.room-arr U H A W L.u8 16 0 16 refl)) d10)
 
         d18 : Typed.Typed U H A C E (lives z0 T4) b12 Δ0 at18
-        d18 = pre (begin 2 _) (seq (Reborrow.t-mref-relend U H A W E C _ 2 9 0 2 (Array'.Array L.u64 928) y4 y0 y1 l0 (λ x. x) (as-is r1) (gone y1) refl tt refl refl λ b o. tt) (pre (begin 3
-            _) (seq (Relend.t-sl-relend U H A W E S.row C _ 3 10 1 3 y2 y3 l1 0 (λ x. x) (as-is r6) (gone y3) refl tt refl refl refl λ b o. tt) (seq (Relend.t-sl-aggregate U H A W E S.row C
-            (Relend.asMut S.row) _ 10 11 3 y3 y3 (λ x. x) (Scalar.oFld 3 (Y.field 1 ∷ []) (Y.tyInt Y.w64) 8 λ v. Shared.lenV (v .0)) (as-is r8) (gone (L.sl y3))
-            (Relend.reads-owed-len U H A W S.row y2 1 3 l1 8 refl, refl) refl refl λ b o k. tt) (seq (Plain.t-call-plain U H A W C 2 ps·1 r·1 (cl .2) (cl .3) "datasample_cache::add" (known
-            .1) E (λ pos β. β) _
+        d18 = pre (λ Ψ. Ψ) (begin 2 _) (seq (Typed.give s4) (Reborrow.t-mref-relend U H A W E C _ 2 9 0 2 (Array'.Array L.u64 928) y4 y0 y1 l0 (λ x. x) (as-is r1) (gone y1) refl tt refl refl
+            λ b o. tt) (pre (λ Ψ. Ψ) (begin 3 _) (seq (Typed.give s6) (Relend.t-sl-relend U H A W E S.row C _ 3 10 1 3 y2 y3 l1 0 (λ x. x) (as-is r6) (gone y3) refl tt refl refl refl λ b o.
+            tt) (seq (Typed.ask s7) (Relend.t-sl-aggregate U H A W E S.row C (Relend.asMut S.row) _ 10 11 3 y3 y3 (λ x. x) (Scalar.oFld 3 (Y.field 1 ∷ []) (Y.tyInt Y.w64) 8 λ v. Shared.lenV
+            (v .0)) (as-is r8) (gone (L.sl y3)) (Relend.reads-owed-len U H A W S.row y2 1 3 l1 8 refl, refl) refl refl λ b o k. tt) (seq (Typed.both s8) (Plain.t-call-plain U H A W C 2 ps·1
+            r·1 (cl .2) (cl .3) "datasample_cache::add" (known .1) E (λ pos β. β) _
             (record { pos = 6; st = []; d = 0; at = λ x. x }, (record { pos = 9; ty = y1; ref = λ x. x }, (record { pos = 11; ty = y3; ref = λ x. x }, (Num.vFld 4 (Y.field 0 ∷ []) 0 λ x. Arrival.struct .as-values x .0, (record { pos = 5; st = []; d = 0; at = λ x. x }, (Num.vFld 4 (Y.field 1 ∷ []) 8 λ x. Arrival.struct .as-values x .1 .0, (Num.vFld 4 (Y.field 2 ∷ []) 16 λ x. Arrival.struct .as-values x .1 .1 .0, (Num.vFld 4 (Y.field 3 ∷ []) 24 λ x. Arrival.struct .as-values x .1 .1 .1 .0, (Num.vAt 7 λ x. x, tt)))))))))
             8 (2 ∷ 3 ∷ []) (Call.sub-id U H A W _)
             ((Yields.yields-copy U H A W (λ ρ. Unit) (Declared.row Cache.the-type) refl (Copies.cStruct Cache.the-type Cache′.the-laws Cache′.the-copy .copy U H A W) r16 (λ x. x) (λ x. x) (λ ρ told. Local.mem-whole U H A W (Declared.row Cache.the-type) ρ) λ ρ told. Local.whole-mem U H A W (Declared.row Cache.the-type) ρ, refl), (as-is r2, Reads'.reads-mref U H A W (Array'.Array L.u64 928) y1 2, refl, (as-is r9, Mut.reads-mslice U H A W S.row y3 3, refl, ((Reads.reads-field U H A W Arrival.the-type Arrival′.the-laws 0 (Y.tyInt Y.w64) 0 refl, refl), ((Array.arr-yields U H A W (Array.eInt Y.w8) (Array.eInt-laws Y.w8) 16, refl), ((Reads.reads-field U H A W Arrival.the-type Arrival′.the-laws 1 (Y.tyInt Y.w64) 8 refl, refl), ((Reads.reads-field U H A W Arrival.the-type Arrival′.the-laws 2 (Y.tyInt Y.w64) 16 refl, refl), ((Reads.reads-field U H A W Arrival.the-type Arrival′.the-laws 3 (Y.tyInt Y.w8) 24 refl, refl), ((Scalar.reads-sc U H A W (Row.sInt Y.w32), refl), tt)))))))))
             (gone AddOutcome′.mir) (tt, (tt, tt)) refl) d12)))))
 
         d21 : Typed.Typed U H A C E G0 b14 Δ0 at21
-        d21 = seq (WayStmt.t-way-copy-out U H A W E C (Declared.row Cache.the-type) refl (Copies.cStruct Cache.the-type Cache′.the-laws Cache′.the-copy .copy U H A W) (λ ρ. Unit) _ (Row.out
-            1 (G0 .locals)) (λ u. Row.drop 1 (G0 .locals) u) (G0 .slots) 1 (λ t. Y.field 0 ∷ t) Cache′.mir Cache′.mir 6 r16 (λ x. x) (λ u. At.getAt (Session.the-type .parts) 0
-            (Session.struct .as-values (u .1 .0))) (λ u. (Row.rd 0 1 bs, Nat._+_ 0 0)) (λ T′. record
+        d21 = seq (Typed.both s0) (WayStmt.t-way-copy-out U H A W E C (Declared.row Cache.the-type) refl (Copies.cStruct Cache.the-type Cache′.the-laws Cache′.the-copy .copy U H A W) (λ ρ.
+            Unit) _ (Row.out 1 (G0 .locals)) (λ u. Row.drop 1 (G0 .locals) u) (G0 .slots) 1 (λ t. Y.field 0 ∷ t) Cache′.mir Cache′.mir 6 r16 (λ x. x) (λ u. At.getAt (Session.the-type .parts)
+            0 (Session.struct .as-values (u .1 .0))) (λ u. (Row.rd 0 1 bs, Nat._+_ 0 0)) (λ T′. record
             { locals = Row.setRow 1 (1, Rows'.whole (Declared.row Session.the-type)) T′; slots = G0 .slots }) (λ u T′ m′. Row.set 1 (1, Rows'.whole (Declared.row Session.the-type)) (u .1 .0)
             T′ m′) (λ u. Unit) (λ x. Unit) (Own.told-none U H A (G0 .slots)) (DerefMove.learns-nothing U H A (Declared.row Cache.the-type)) (λ ρ told u asked. Way'.w-partˢ U H A W E
             (Declared.row Session.the-type) (Declared.row Cache.the-type) Session′.mir Cache′.mir 0 0 (u .1 .0) (At.getAt (Session.the-type .parts) 0 (Session.struct .as-values (u .1 .0)))
@@ -409,9 +442,9 @@ module _ (cl : Claims) where
             1 bs)))) refl λ q. Inner.cut-record U H A q (Declared.row Session.the-type) Cache.the-type 0 (u .1 .0) (u .1 .0) (At.getAt (Session.the-type .parts) 0 (Session.struct .as-values
             (u .1 .0))) (At.getAt (Session.the-type .parts) 0 (Session.struct .as-values (u .1 .0))) (Row.rd 0 1 bs, 0) (Behind.look-at U H A W q Session.the-type Session′.the-laws 0 0 refl
             refl (Row.rd 0 1 bs, 0) (u .1 .0) (Session.struct .as-values (u .1 .0)) refl)) (gone Cache′.mir) (Yields.makes-mem U H A W (λ ρ. Unit) (Declared.row Cache.the-type) refl r16 (λ
-            x. x) λ ρ told. Local.whole-mem U H A W (Declared.row Cache.the-type) ρ) refl refl refl) (pre (Scalar.g-room U H A W E _ 1 Session′.mir (Local.room-whole U H A W (Declared.row
-            Session.the-type) Session′.mir refl)) (seq (Plain.t-call-plain U H A W C 0 ps·0 r·0 (cl .0) (cl .1) "replies::bounded" (known .0) E (λ pos β. β) _
-            (Num.vFld 4 (Y.field 4 ∷ []) 28 λ x. Arrival.struct .as-values x .1 .1 .1 .1 .0, tt) 7 [] (Call.sub-id U H A W _)
+            x. x) λ ρ told. Local.whole-mem U H A W (Declared.row Cache.the-type) ρ) refl refl refl) (pre (Typed.pass T2 T3 s1) (Scalar.g-room U H A W E _ 1 Session′.mir (Local.room-whole U
+            H A W (Declared.row Session.the-type) Session′.mir refl)) (seq (Typed.both s2) (Plain.t-call-plain U H A W C 0 ps·0 r·0 (cl .0) (cl .1) "replies::bounded" (known .0) E (λ pos β.
+            β) _ (Num.vFld 4 (Y.field 4 ∷ []) 28 λ x. Arrival.struct .as-values x .1 .1 .1 .1 .0, tt) 7 [] (Call.sub-id U H A W _)
             ((Reads.reads-field U H A W Arrival.the-type Arrival′.the-laws 4 (Y.tyInt Y.w32) 28 refl, refl), tt) (gone (Y.tyInt Y.w32)) tt refl) d18))
 
         pub typed : Typed.Typed U H A C E (Function.Γin 2 ps r xs m κs qs) b14 (Function.Δret 2 ps r xs m κs qs) (Φ bs)

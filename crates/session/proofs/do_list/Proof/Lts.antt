@@ -346,8 +346,40 @@ abbrev t2 : List.List Row.Entry
 t2 = (0, r27) ∷ (1, r31) ∷ (2, r3) ∷ (3, r19) ∷ (4, r12) ∷ (5, L.gbool) ∷ (6, r2) ∷ (7, r35) ∷ (8, r24) ∷ (9, L.g64) ∷ (10, L.g64) ∷ (11, r29) ∷ (12, r29) ∷ (13, r8) ∷ (14, r13) ∷
     (15, L.gbool) ∷ []
 
+abbrev t7 : List.List Row.Entry
+t7 = (0, r30) ∷ (1, r31) ∷ (2, r3) ∷ (3, r19) ∷ (4, r12) ∷ (5, L.hbool) ∷ (6, r2) ∷ (7, r28) ∷ (8, r33) ∷ (9, L.g64) ∷ (10, L.g64) ∷ (11, r29) ∷ (12, r29) ∷ (13, Relend.msptr L.u64 y2 4) ∷
+    (14, r13) ∷ (15, L.gbool) ∷ []
+
+abbrev t11 : List.List Row.Entry
+t11 = (0, r30) ∷ (1, r31) ∷ (2, r3) ∷ (3, r19) ∷ (4, r12) ∷ (5, L.hbool) ∷ (6, r2) ∷ (7, r28) ∷ (8, r36) ∷ (9, L.h64) ∷ (10, L.h64) ∷ (11, r29) ∷ (12, r29) ∷ (13, r8) ∷ (14, r13) ∷
+    (15, L.gbool) ∷ []
+
+abbrev t15 : List.List Row.Entry
+t15 = (0, r30) ∷ (1, r31) ∷ (2, r0) ∷ (3, r10) ∷ (4, r12) ∷ (5, L.hbool) ∷ (6, r2) ∷ (7, r28) ∷ (8, r36) ∷ (9, L.h64) ∷ (10, L.h64) ∷ (11, r29) ∷ (12, r29) ∷ (13, r8) ∷ (14, r13) ∷
+    (15, L.gbool) ∷ []
+
+abbrev t16 : List.List Row.Entry
+t16 = (16, r4) ∷ (17, Relend.msptr S.row y13 6) ∷ (18, r20) ∷ (19, r9) ∷ (20, r14) ∷ (21, r18) ∷ (22, r13) ∷ (23, r11) ∷ (24, r25) ∷ (25, r20) ∷ (26, r9) ∷ (27, r14) ∷ (28, r18) ∷ (29, r13)
+    ∷ []
+
+abbrev t18 : List.List Row.Entry
+t18 = (0, r30) ∷ (1, r31) ∷ (2, r0) ∷ (3, r10) ∷ (4, r12) ∷ (5, L.hbool) ∷ (6, r2) ∷ (7, r28) ∷ (8, r34) ∷ (9, L.h64) ∷ (10, L.h64) ∷ (11, r29) ∷ (12, r29) ∷ (13, r8) ∷ (14, r13) ∷
+    (15, L.gbool) ∷ []
+
+abbrev t19 : List.List Row.Entry
+t19 = (16, r4) ∷ (17, r25) ∷ (18, r22) ∷ (19, Relend.ssptr L.u64 y3 7) ∷ (20, r14) ∷ (21, r18) ∷ (22, r13) ∷ (23, r11) ∷ (24, r25) ∷ (25, r20) ∷ (26, r9) ∷ (27, r14) ∷ (28, r18) ∷ (29, r13)
+    ∷ []
+
 abbrev t20 : List.List Row.Entry
 t20 = (16, r4) ∷ (17, r25) ∷ (18, r22) ∷ (19, r9) ∷ (20, r16) ∷ (21, r18) ∷ (22, r13) ∷ (23, r11) ∷ (24, r25) ∷ (25, r20) ∷ (26, r9) ∷ (27, r14) ∷ (28, r18) ∷ (29, r13) ∷ []
+
+abbrev t21 : List.List Row.Entry
+t21 = (0, r30) ∷ (1, r31) ∷ (2, r0) ∷ (3, r10) ∷ (4, r12) ∷ (5, L.hbool) ∷ (6, Frozen.held (Frozen.fz-open Y.erased 3 [] Row.off (AsSlice.fz-lent-sl L.u64 6912 8))) ∷ (7, r28) ∷ (8, r34) ∷
+    (9, L.h64) ∷ (10, L.h64) ∷ (11, r29) ∷ (12, r29) ∷ (13, r8) ∷ (14, r13) ∷ (15, L.gbool) ∷ []
+
+abbrev t22 : List.List Row.Entry
+t22 = (16, r4) ∷ (17, r25) ∷ (18, r22) ∷ (19, r9) ∷ (20, r16) ∷ (21, Relend.msptr L.u64 y8 8) ∷ (22, r13) ∷ (23, r11) ∷ (24, r25) ∷ (25, r20) ∷ (26, r9) ∷ (27, r14) ∷ (28, r18) ∷ (29, r13) ∷
+    []
 
 abbrev t24 : List.List Row.Entry
 t24 = (0, r30) ∷ (1, r31) ∷ (2, r0) ∷ (3, r10) ∷ (4, r12) ∷ (5, L.hbool) ∷ (6, Frozen.held (Frozen.fz-open Y.erased 3 [] Row.off (AsSlice.fz-lent-sl L.u64 6912 8))) ∷ (7, r28) ∷ (8, r34) ∷
@@ -356,8 +388,43 @@ t24 = (0, r30) ∷ (1, r31) ∷ (2, r0) ∷ (3, r10) ∷ (4, r12) ∷ (5, L.hboo
 abbrev t25 : List.List Row.Entry
 t25 = (16, r6) ∷ (17, r25) ∷ (18, r23) ∷ (19, r9) ∷ (20, r16) ∷ (21, r18) ∷ (22, r17) ∷ (23, r11) ∷ (24, r25) ∷ (25, r20) ∷ (26, r9) ∷ (27, r14) ∷ (28, r18) ∷ (29, r13) ∷ []
 
+abbrev t28 : List.List Row.Entry
+t28 = (0, r30) ∷ (1, r31) ∷ (2, r3) ∷ (3, r10) ∷ (4, r12) ∷ (5, L.hbool) ∷ (6, Frozen.held (Frozen.fz-open Y.erased 3 [] Row.off (AsSlice.fz-lent-sl L.u64 6912 8))) ∷ (7, r35) ∷ (8, r34) ∷
+    (9, L.h64) ∷ (10, L.h64) ∷ (11, r26) ∷ (12, r29) ∷ (13, r8) ∷ (14, r13) ∷ (15, L.gbool) ∷ []
+
+abbrev t29 : List.List Row.Entry
+t29 = (16, r11) ∷ (17, r25) ∷ (18, r23) ∷ (19, r9) ∷ (20, r14) ∷ (21, r18) ∷ (22, r17) ∷ (23, r11) ∷ (24, r25) ∷ (25, r20) ∷ (26, r9) ∷ (27, r14) ∷ (28, r18) ∷ (29, r13) ∷ []
+
+abbrev t35 : List.List Row.Entry
+t35 = (0, r27) ∷ (1, r31) ∷ (2, r3) ∷ (3, r19) ∷ (4, r12) ∷ (5, L.hbool) ∷ (6, r2) ∷ (7, r35) ∷ (8, r24) ∷ (9, L.h64) ∷ (10, L.h64) ∷ (11, r26) ∷ (12, r29) ∷ (13, r8) ∷ (14, r13) ∷
+    (15, L.gbool) ∷ []
+
+abbrev t41 : List.List Row.Entry
+t41 = (0, r30) ∷ (1, r31) ∷ (2, r1) ∷ (3, r7) ∷ (4, r12) ∷ (5, L.hbool) ∷ (6, r2) ∷ (7, r28) ∷ (8, r36) ∷ (9, L.h64) ∷ (10, L.h64) ∷ (11, r29) ∷ (12, r29) ∷ (13, r8) ∷ (14, r13) ∷
+    (15, L.gbool) ∷ []
+
+abbrev t42 : List.List Row.Entry
+t42 = (16, r11) ∷ (17, r25) ∷ (18, r20) ∷ (19, r9) ∷ (20, r14) ∷ (21, r18) ∷ (22, r13) ∷ (23, r5) ∷ (24, Relend.msptr S.row y13 10) ∷ (25, r20) ∷ (26, r9) ∷ (27, r14) ∷ (28, r18) ∷ (29, r13)
+    ∷ []
+
+abbrev t44 : List.List Row.Entry
+t44 = (0, r30) ∷ (1, r31) ∷ (2, r1) ∷ (3, r7) ∷ (4, r12) ∷ (5, L.hbool) ∷ (6, r2) ∷ (7, r28) ∷ (8, r32) ∷ (9, L.h64) ∷ (10, L.h64) ∷ (11, r29) ∷ (12, r29) ∷ (13, r8) ∷ (14, r13) ∷
+    (15, L.gbool) ∷ []
+
+abbrev t45 : List.List Row.Entry
+t45 = (16, r11) ∷ (17, r25) ∷ (18, r20) ∷ (19, r9) ∷ (20, r14) ∷ (21, r18) ∷ (22, r13) ∷ (23, r5) ∷ (24, r25) ∷ (25, r21) ∷ (26, Relend.ssptr L.u64 y3 11) ∷ (27, r14) ∷ (28, r18) ∷ (29, r13)
+    ∷ []
+
 abbrev t46 : List.List Row.Entry
 t46 = (16, r11) ∷ (17, r25) ∷ (18, r20) ∷ (19, r9) ∷ (20, r14) ∷ (21, r18) ∷ (22, r13) ∷ (23, r5) ∷ (24, r25) ∷ (25, r21) ∷ (26, r9) ∷ (27, r15) ∷ (28, r18) ∷ (29, r13) ∷ []
+
+abbrev t47 : List.List Row.Entry
+t47 = (0, r30) ∷ (1, r31) ∷ (2, r1) ∷ (3, r7) ∷ (4, r12) ∷ (5, L.hbool) ∷ (6, Frozen.held (Frozen.fz-open Y.erased 3 [] Row.off (AsSlice.fz-lent-sl L.u64 6912 12))) ∷ (7, r28) ∷ (8, r32) ∷
+    (9, L.h64) ∷ (10, L.h64) ∷ (11, r29) ∷ (12, r29) ∷ (13, r8) ∷ (14, r13) ∷ (15, L.gbool) ∷ []
+
+abbrev t48 : List.List Row.Entry
+t48 = (16, r11) ∷ (17, r25) ∷ (18, r20) ∷ (19, r9) ∷ (20, r14) ∷ (21, r18) ∷ (22, r13) ∷ (23, r5) ∷ (24, r25) ∷ (25, r21) ∷ (26, r9) ∷ (27, r15) ∷ (28, Relend.msptr L.u64 y8 12) ∷ (29, r13)
+    ∷ []
 
 abbrev t50 : List.List Row.Entry
 t50 = (0, r30) ∷ (1, r31) ∷ (2, r1) ∷ (3, r7) ∷ (4, r12) ∷ (5, L.hbool) ∷ (6, Frozen.held (Frozen.fz-open Y.erased 3 [] Row.off (AsSlice.fz-lent-sl L.u64 6912 12))) ∷ (7, r28) ∷ (8, r32) ∷
@@ -366,11 +433,18 @@ t50 = (0, r30) ∷ (1, r31) ∷ (2, r1) ∷ (3, r7) ∷ (4, r12) ∷ (5, L.hbool
 abbrev t51 : List.List Row.Entry
 t51 = (16, r11) ∷ (17, r25) ∷ (18, r20) ∷ (19, r9) ∷ (20, r14) ∷ (21, r18) ∷ (22, r13) ∷ (23, r6) ∷ (24, r25) ∷ (25, r23) ∷ (26, r9) ∷ (27, r15) ∷ (28, r18) ∷ (29, r17) ∷ []
 
+abbrev t54 : List.List Row.Entry
+t54 = (0, r30) ∷ (1, r31) ∷ (2, r3) ∷ (3, r7) ∷ (4, r12) ∷ (5, L.hbool) ∷ (6, Frozen.held (Frozen.fz-open Y.erased 3 [] Row.off (AsSlice.fz-lent-sl L.u64 6912 12))) ∷ (7, r35) ∷ (8, r32) ∷
+    (9, L.h64) ∷ (10, L.h64) ∷ (11, r29) ∷ (12, r26) ∷ (13, r8) ∷ (14, r13) ∷ (15, L.gbool) ∷ []
+
+abbrev t55 : List.List Row.Entry
+t55 = (16, r11) ∷ (17, r25) ∷ (18, r20) ∷ (19, r9) ∷ (20, r14) ∷ (21, r18) ∷ (22, r13) ∷ (23, r11) ∷ (24, r25) ∷ (25, r23) ∷ (26, r9) ∷ (27, r14) ∷ (28, r18) ∷ (29, r17) ∷ []
+
+abbrev t57 : List.List Row.Entry
+t57 = (16, r11) ∷ (17, r25) ∷ (18, r20) ∷ (19, r9) ∷ (20, r14) ∷ (21, r18) ∷ (22, r13) ∷ (23, r11) ∷ (24, r25) ∷ (25, r20) ∷ (26, r9) ∷ (27, r14) ∷ (28, r18) ∷ (29, r17) ∷ []
+
 abbrev on : Nat.ℕ → Row.Row → Row.Cx → Row.Cx
 on n r Γ = record { locals = Row.setRow n (n, r) (Γ .locals); slots = Γ .slots }
-
-abbrev life : Nat.ℕ → Row.Life → Row.Cx → Row.Cx
-life n l Γ = record { locals = Γ .locals; slots = Row.setLife n l (Γ .slots) }
 
 abbrev lives : List.List Row.Life → Row.Cx → Row.Cx
 lives ls Γ = record { locals = Γ .locals; slots = ls }
@@ -394,19 +468,19 @@ abbrev T6 : Row.Cx
 T6 = on 8 r36 T4
 
 abbrev T8 : Row.Cx
-T8 = on 13 (Relend.msptr L.u64 y2 4) (on 8 r33 T4)
+T8 = record { locals = List._++_ t7 t1; slots = [] }
 
 abbrev T9 : Row.Cx
-T9 = on 14 (Mut.mslice L.u64 y8 4) (on 8 r33 T4)
+T9 = on 14 (Mut.mslice L.u64 y8 4) (on 13 r8 T8)
 
 abbrev T10 : Row.Cx
-T10 = on 14 r17 (on 9 L.h64 T9)
+T10 = on 14 r17 (on 13 r8 (on 9 L.h64 T8))
 
 abbrev T12 : Row.Cx
-T12 = on 9 L.h64 T6
+T12 = on 13 r8 (on 9 L.h64 (on 8 r36 T8))
 
 abbrev T14 : Row.Cx
-T14 = on 10 L.h64 T12
+T14 = record { locals = List._++_ t11 t1; slots = [] }
 
 abbrev T15 : Row.Cx
 T15 = on 15 L.hbool T14
@@ -415,24 +489,22 @@ abbrev T19 : Row.Cx
 T19 = on 16 r4 (on 2 r0 T14)
 
 abbrev T21 : Row.Cx
-T21 = on 17 (Relend.msptr S.row y13 6) (on 3 r10 T19)
+T21 = record { locals = List._++_ t15 t16; slots = [] }
 
 abbrev T22 : Row.Cx
-T22 = on 18 r22 (on 3 r10 T19)
+T22 = on 18 r22 (on 17 r25 T21)
 
 abbrev T24 : Row.Cx
-T24 = on 19 (Relend.ssptr L.u64 y3 7) (on 8 r34 T22)
+T24 = record { locals = List._++_ t18 t19; slots = [] }
 
 abbrev T25 : Row.Cx
-T25 = on 20 r16 (on 8 r34 T22)
+T25 = on 20 r16 (on 19 r9 T24)
 
 abbrev T27 : Row.Cx
-T27 = on 21 (Relend.msptr L.u64 y8 8) (on 20 r16 (on 18 r22 (on 16 r4 (on 10 L.h64 (on 9 L.h64 (on 8 r34 (on 6 (Frozen.held (Frozen.fz-open Y.erased 3 [] Row.off (AsSlice.fz-lent-sl L.u64
-    6912 8))) (on 3 r10 (on 2 r0 T4)))))))))
+T27 = record { locals = List._++_ t21 t22; slots = [] }
 
 abbrev T28 : Row.Cx
-T28 = on 22 (Mut.mslice L.u64 y8 8) (on 20 r16 (on 18 r22 (on 16 r4 (on 10 L.h64 (on 9 L.h64 (on 8 r34 (on 6 (Frozen.held (Frozen.fz-open Y.erased 3 [] Row.off (AsSlice.fz-lent-sl L.u64 6912
-    8))) (on 3 r10 (on 2 r0 T4)))))))))
+T28 = on 22 (Mut.mslice L.u64 y8 8) (on 21 r18 T27)
 
 abbrev T29 : Row.Cx
 T29 = record { locals = List._++_ t24 t25; slots = [] }
@@ -444,7 +516,7 @@ abbrev T31 : Row.Cx
 T31 = on 7 r35 T30
 
 abbrev T33 : Row.Cx
-T33 = on 16 r11 (on 2 r3 T31)
+T33 = record { locals = List._++_ t28 t29; slots = [] }
 
 abbrev T36 : Row.Cx
 T36 = on 18 r20 (on 3 r19 T33)
@@ -456,10 +528,10 @@ abbrev T41 : Row.Cx
 T41 = on 8 r24 T36
 
 abbrev T43 : Row.Cx
-T43 = on 22 r13 (on 6 r2 T41)
+T43 = on 11 r26 (on 8 r24 (on 7 r35 T14))
 
 abbrev T45 : Row.Cx
-T45 = on 0 r27 T43
+T45 = record { locals = List._++_ t35 t1; slots = [] }
 
 abbrev T46 : Row.Cx
 T46 = on 11 r29 T45
@@ -468,30 +540,28 @@ abbrev T47 : Row.Cx
 T47 = on 5 L.gbool T46
 
 abbrev T48 : Row.Cx
-T48 = on 10 L.h64 T1
+T48 = on 9 L.g64 T47
 
 abbrev T52 : Row.Cx
 T52 = on 23 r5 (on 2 r1 T14)
 
 abbrev T54 : Row.Cx
-T54 = on 24 (Relend.msptr S.row y13 10) (on 3 r7 T52)
+T54 = record { locals = List._++_ t41 t42; slots = [] }
 
 abbrev T55 : Row.Cx
-T55 = on 25 r21 (on 3 r7 T52)
+T55 = on 25 r21 (on 24 r25 T54)
 
 abbrev T57 : Row.Cx
-T57 = on 26 (Relend.ssptr L.u64 y3 11) (on 8 r32 T55)
+T57 = record { locals = List._++_ t44 t45; slots = [] }
 
 abbrev T58 : Row.Cx
-T58 = on 27 r15 (on 8 r32 T55)
+T58 = on 27 r15 (on 26 r9 T57)
 
 abbrev T60 : Row.Cx
-T60 = on 28 (Relend.msptr L.u64 y8 12) (on 27 r15 (on 25 r21 (on 23 r5 (on 10 L.h64 (on 9 L.h64 (on 8 r32 (on 6 (Frozen.held (Frozen.fz-open Y.erased 3 [] Row.off (AsSlice.fz-lent-sl L.u64
-    6912 12))) (on 3 r7 (on 2 r1 T4)))))))))
+T60 = record { locals = List._++_ t47 t48; slots = [] }
 
 abbrev T61 : Row.Cx
-T61 = on 29 (Mut.mslice L.u64 y8 12) (on 27 r15 (on 25 r21 (on 23 r5 (on 10 L.h64 (on 9 L.h64 (on 8 r32 (on 6 (Frozen.held (Frozen.fz-open Y.erased 3 [] Row.off (AsSlice.fz-lent-sl L.u64
-    6912 12))) (on 3 r7 (on 2 r1 T4)))))))))
+T61 = on 29 (Mut.mslice L.u64 y8 12) (on 28 r18 T60)
 
 abbrev T62 : Row.Cx
 T62 = record { locals = List._++_ t50 t51; slots = [] }
@@ -503,7 +573,7 @@ abbrev T64 : Row.Cx
 T64 = on 7 r35 T63
 
 abbrev T66 : Row.Cx
-T66 = on 23 r11 (on 2 r3 T64)
+T66 = record { locals = List._++_ t54 t55; slots = [] }
 
 abbrev T69 : Row.Cx
 T69 = on 25 r20 (on 3 r19 T66)
@@ -515,19 +585,19 @@ abbrev T74 : Row.Cx
 T74 = on 8 r24 T69
 
 abbrev T76 : Row.Cx
-T76 = on 29 r13 (on 6 r2 T74)
+T76 = on 12 r26 (on 0 r30 T46)
 
 abbrev T78 : Row.Cx
-T78 = on 0 r27 T76
+T78 = on 12 r26 T46
 
 abbrev T79 : Row.Cx
 T79 = on 9 L.g64 T78
 
 abbrev T80 : Row.Cx
-T80 = on 10 L.g64 T79
+T80 = on 12 r26 (on 1 r31 (on 0 r27 T0))
 
 abbrev T81 : Row.Cx
-T81 = on 5 L.hbool T1
+T81 = on 1 r31 (on 0 r27 T0)
 
 abbrev O0 : Typed.Outs
 O0 = record { next = Option.none; exits = []; returns = Option.some T1 }
@@ -808,6 +878,10 @@ module _ (cl : Claims) where
       g44 = (0, r30) ∷ (1, r31) ∷ (2, Rows'.mref-owed (Array.Array L.u64 928) y1 0 9 l0) ∷ (3, Relend.mslice-owed S.row y11 1 10 l1) ∷ (4, r12) ∷ (5, L.hbool) ∷ (6, r2) ∷ (7, r28) ∷ (8, r32)
           ∷ (9, L.h64) ∷ (10, L.h64) ∷ (11, r29) ∷ (12, r29) ∷ (13, r8) ∷ (14, r13) ∷ (15, L.gbool) ∷ []
 
+      abbrev g59 : List.List Row.Entry
+      g59 = (0, r30) ∷ (1, r31) ∷ (2, r3) ∷ (3, r19) ∷ (4, r12) ∷ (5, L.hbool) ∷ (6, Frozen.held (Frozen.fz-open Y.erased 3 (κs .1 .1 .1 .0) l2 (AsSlice.fz-lent-sl L.u64 6912 12))) ∷
+          (7, r35) ∷ (8, r24) ∷ (9, L.h64) ∷ (10, L.h64) ∷ (11, r29) ∷ (12, r26) ∷ (13, r8) ∷ (14, r13) ∷ (15, L.gbool) ∷ []
+
       abbrev G0 : Row.Cx
       G0 = lives z0 T0
 
@@ -824,29 +898,17 @@ module _ (cl : Claims) where
       G26 = record
           { locals = List._++_ g18 t20; slots = Row.off ∷ Row.off ∷ Row.lease (κs .1 .1 .0) (qs .1 .1 .0) ∷ l2 ∷ Row.off ∷ Row.alive ∷ Row.alive ∷ Row.alive ∷ Row.alive ∷ Row.off ∷ Row.off ∷ Row.off ∷ Row.off ∷ [] }
 
-      abbrev G29 : Row.Cx
-      G29 = life 3 Row.off (on 22 r17 (on 18 r23 (on 16 r6 (on 11 r26 (on 6 (Frozen.held (Frozen.fz-open Y.erased 3 (κs .1 .1 .1 .0) l2 (AsSlice.fz-lent-sl L.u64 6912 8))) G26)))))
-
-      abbrev G37 : Row.Cx
-      G37 = lives (l0 ∷ l1 ∷ Row.lease (κs .1 .1 .0) (qs .1 .1 .0) ∷ Row.off ∷ Row.off ∷ Row.off ∷ Row.off ∷ Row.alive ∷ Row.alive ∷ Row.off ∷ Row.off ∷ Row.off ∷ Row.off ∷ []) (on 20 r14
-          (on 18 r20 (on 16 r11 (on 7 r35 (on 3 r19 (on 2 r3 G29))))))
-
       abbrev G42 : Row.Cx
-      G42 = lives (l0 ∷ l1 ∷ Row.lease (κs .1 .1 .0) (qs .1 .1 .0) ∷ Row.off ∷ Row.off ∷ Row.off ∷ Row.off ∷ Row.off ∷ Row.dead ∷ Row.off ∷ Row.off ∷ Row.off ∷ Row.off ∷ []) (on 8 r24 G37)
+      G42 = lives (l0 ∷ l1 ∷ Row.lease (κs .1 .1 .0) (qs .1 .1 .0) ∷ Row.off ∷ Row.off ∷ Row.off ∷ Row.off ∷ Row.off ∷ Row.dead ∷ Row.off ∷ Row.off ∷ Row.off ∷ Row.off ∷ []) (on 22 r17 (on 6
+          (Frozen.held (Frozen.fz-open Y.erased 3 (κs .1 .1 .1 .0) l2 (AsSlice.fz-lent-sl L.u64 6912 8))) (on 0 r30 T45)))
 
       abbrev G59 : Row.Cx
       G59 = record
           { locals = List._++_ g44 t46; slots = Row.off ∷ Row.off ∷ Row.lease (κs .1 .1 .0) (qs .1 .1 .0) ∷ l2 ∷ Row.off ∷ Row.off ∷ Row.off ∷ Row.off ∷ Row.off ∷ Row.alive ∷ Row.alive ∷ Row.alive ∷ Row.alive ∷ [] }
 
-      abbrev G62 : Row.Cx
-      G62 = life 3 Row.off (on 29 r17 (on 25 r23 (on 23 r6 (on 12 r26 (on 6 (Frozen.held (Frozen.fz-open Y.erased 3 (κs .1 .1 .1 .0) l2 (AsSlice.fz-lent-sl L.u64 6912 12))) G59)))))
-
-      abbrev G70 : Row.Cx
-      G70 = lives (l0 ∷ l1 ∷ Row.lease (κs .1 .1 .0) (qs .1 .1 .0) ∷ Row.off ∷ Row.off ∷ Row.off ∷ Row.off ∷ Row.off ∷ Row.off ∷ Row.off ∷ Row.off ∷ Row.alive ∷ Row.alive ∷ []) (on 27 r14
-          (on 25 r20 (on 23 r11 (on 7 r35 (on 3 r19 (on 2 r3 G62))))))
-
       abbrev G75 : Row.Cx
-      G75 = lives (l0 ∷ l1 ∷ Row.lease (κs .1 .1 .0) (qs .1 .1 .0) ∷ Row.off ∷ Row.off ∷ Row.off ∷ Row.off ∷ Row.off ∷ Row.off ∷ Row.off ∷ Row.off ∷ Row.off ∷ Row.dead ∷ []) (on 8 r24 G70)
+      G75 = record
+          { locals = List._++_ g59 t57; slots = l0 ∷ l1 ∷ Row.lease (κs .1 .1 .0) (qs .1 .1 .0) ∷ Row.off ∷ Row.off ∷ Row.off ∷ Row.off ∷ Row.off ∷ Row.off ∷ Row.off ∷ Row.off ∷ Row.off ∷ Row.dead ∷ [] }
 
       abbrev Δ0 : Typed.Outs
       Δ0 = record { next = Option.none; exits = []; returns = Option.some (lives z0 T1) }
@@ -863,13 +925,13 @@ module _ (cl : Claims) where
             (Rows'.whole R) R (λ x. x) (λ x. x)
         copied R one c = Yields.yields-copy U H A W (λ ρ. Unit) R one c (Rows'.whole R) (λ x. x) (λ x. x) (λ ρ told. Local.mem-whole U H A W R ρ) λ ρ told. Local.whole-mem U H A W R ρ
 
-        pre : {Γ Γ₁ : Row.Cx} {b : Y.Body} {Δ : Typed.Outs} {φ : Typed.Tf Γ Γ₁} {Φ : Typed.TF Γ₁ Δ} → Typed.Ghost U H A E Γ Γ₁ φ → Typed.Typed U H A C E Γ₁ b Δ Φ → Typed.Typed U H A C E Γ b
+        pre : {Γ Γ₁ : Row.Cx} {b : Y.Body} {Δ : Typed.Outs} {Φ : Typed.TF Γ₁ Δ} (φ : Typed.Tf Γ Γ₁) → Typed.Ghost U H A E Γ Γ₁ φ → Typed.Typed U H A C E Γ₁ b Δ Φ → Typed.Typed U H A C E Γ b
             Δ (λ Ψ. φ (Φ Ψ))
-        pre = Typed.g-pre U H A W C E _ _ _ _ _ _
+        pre φ = Typed.g-pre U H A W C E _ _ _ _ φ _
 
-        seq : {Γ Γ₁ : Row.Cx} {a b : Y.Body} {Δ : Typed.Outs} {φ : Typed.Tf Γ Γ₁} {Φ : Typed.TF Γ₁ Δ} → Typed.Stmt U H A C E Γ a Γ₁ φ → Typed.Typed U H A C E Γ₁ b Δ Φ → Typed.Typed U H A C E
+        seq : {Γ Γ₁ : Row.Cx} {a b : Y.Body} {Δ : Typed.Outs} {Φ : Typed.TF Γ₁ Δ} (φ : Typed.Tf Γ Γ₁) → Typed.Stmt U H A C E Γ a Γ₁ φ → Typed.Typed U H A C E Γ₁ b Δ Φ → Typed.Typed U H A C E
             Γ (Y.seq a b) Δ (λ Ψ. φ (Φ Ψ))
-        seq = Typed.s-seq U H A W C E _ _ _ _ _ _ _
+        seq φ = Typed.s-seq U H A W C E _ _ _ _ _ φ _
 
         room : {Γ : Row.Cx} (n : Nat.ℕ) (τ : Y.Ty) → Reads.ToRoom U H A (Row.getRow n (Γ .locals) .1) τ → Typed.Ghost U H A E Γ (Scalar.After Γ n (Rows'.any-gone τ)) (Typed.pass Γ
             (Scalar.After Γ n (Rows'.any-gone τ)) (Scalar.n-room Γ n τ))
@@ -891,142 +953,158 @@ module _ (cl : Claims) where
         room-sc = Scalar.room-sc U H A W
 
         d4 : Typed.Typed U H A C E (lives z0 T45) b16 Δ1 at4
-        d4 = pre (room 11 ListOutcome′.mir (Local.room-whole U H A W (Declared.row ListOutcome.the-type) ListOutcome′.mir refl)) (pre (room 5 Y.tyBool (room-sc Row.sBool)) (pre (room 9
-            (Y.tyInt Y.w64) (room-sc (Row.sInt Y.w64))) (pre (room 10 (Y.tyInt Y.w64) (room-sc (Row.sInt Y.w64))) (Typed.t-return U H A W C E Δ1 tt))))
+        d4 = pre (Typed.pass T45 T46 s43) (room 11 ListOutcome′.mir (Local.room-whole U H A W (Declared.row ListOutcome.the-type) ListOutcome′.mir refl)) (pre (Typed.pass T46 T47 s44) (room
+            5 Y.tyBool (room-sc Row.sBool)) (pre (Typed.pass T47 T48 s45) (room 9 (Y.tyInt Y.w64) (room-sc (Row.sInt Y.w64))) (pre (Typed.pass T48 T1 s46) (room 10 (Y.tyInt Y.w64) (room-sc
+            (Row.sInt Y.w64))) (Typed.t-return U H A W C E Δ1 tt))))
 
-        d12 : Typed.Typed U H A C E G37 b17 Δ1 at12
-        d12 = pre (end 7 refl) (pre (Share.g-back-arr-shrᵖ U H A W E L.u64 _ 8 8190 7 (λ x. x) (as-is r34) refl) (pre (Lifetime.g-forget U H A W E _ 7 Row.dead refl) (pre (room 8 y12
-            (Init.room-arr U H A W L.u64 8190 0 8190 refl)) (pre (end 8 refl) (pre (WayLend.g-way-back U H A W E (Frozen.fz-open Y.erased 3 (κs .1 .1 .1 .0) l2 (AsSlice.fz-lent-sl L.u64 6912
-            8)) _ 22 6 r2 y8 (Row.setLife 3 l2 (G42 .slots)) (λ x. x) (λ x. x) (λ x. x) (as-is r17) (as-is (Frozen.held (Frozen.fz-open Y.erased 3 (κs .1 .1 .1 .0) l2 (AsSlice.fz-lent-sl
-            L.u64 6912 8)))) refl (WayLend.puts-open U H A Y.erased 3 (κs .1 .1 .1 .0) l2 (AsSlice.fz-lent-sl L.u64 6912 8) (G42 .slots) (G42 .slots) (Row.setLife 3 l2 (G42 .slots))
-            (AsSlice.puts-none-sl U H A L.u64 6912 8 (G42 .slots)) (Open.puts-whole U H A W 3 l2 (G42 .slots) refl)) λ ρ pins. Local.mref-mem U H A W Y.erased (κs .1 .1 .1 .0) (Array.Array
-            L.u64 6912) 3 y0 refl ρ (pins .0)) (pre (Lifetime.g-forget U H A W E _ 8 Row.dead refl) (seq (Plain.t-call-plain U H A W C 0 ps·3 r·3 (cl .6) (cl .7) "replies::list_done" (known
-            .3) E (λ pos β. β) _ (record { pos = 11; st = []; d = 0; at = λ x. x }, tt) 0 [] (Call.sub-id U H A W _)
+        d12 : Typed.Typed U H A C E (lives (l0 ∷ l1 ∷ Row.lease (κs .1 .1 .0) (qs .1 .1 .0) ∷ Row.off ∷ Row.off ∷ Row.off ∷ Row.off ∷ Row.alive ∷ Row.alive ∷ Row.off ∷ Row.off ∷ Row.off ∷
+            Row.off ∷ []) (on 6 (Frozen.held (Frozen.fz-open Y.erased 3 (κs .1 .1 .1 .0) l2 (AsSlice.fz-lent-sl L.u64 6912 8))) T36)) b17 Δ1 at12
+        d12 = pre (λ Ψ. Ψ) (end 7 refl) (pre (Typed.pass T36 T39 s36) (Share.g-back-arr-shrᵖ U H A W E L.u64 _ 8 8190 7 (λ x. x) (as-is r34) refl) (pre (λ Ψ. Ψ) (Lifetime.g-forget U H A W E
+            _ 7 Row.dead refl) (pre (Typed.pass T39 T41 s38) (room 8 y12 (Init.room-arr U H A W L.u64 8190 0 8190 refl)) (pre (λ Ψ. Ψ) (end 8 refl) (pre (Typed.ask s40) (WayLend.g-way-back U
+            H A W E (Frozen.fz-open Y.erased 3 (κs .1 .1 .1 .0) l2 (AsSlice.fz-lent-sl L.u64 6912 8)) _ 22 6 r2 y8 (Row.setLife 3 l2 (G42 .slots)) (λ x. x) (λ x. x) (λ x. x) (as-is r17)
+            (as-is (Frozen.held (Frozen.fz-open Y.erased 3 (κs .1 .1 .1 .0) l2 (AsSlice.fz-lent-sl L.u64 6912 8)))) refl (WayLend.puts-open U H A Y.erased 3 (κs .1 .1 .1 .0) l2
+            (AsSlice.fz-lent-sl L.u64 6912 8) (G42 .slots) (G42 .slots) (Row.setLife 3 l2 (G42 .slots)) (AsSlice.puts-none-sl U H A L.u64 6912 8 (G42 .slots)) (Open.puts-whole U H A W 3 l2
+            (G42 .slots) refl)) λ ρ pins. Local.mref-mem U H A W Y.erased (κs .1 .1 .1 .0) (Array.Array L.u64 6912) 3 y0 refl ρ (pins .0)) (pre (λ Ψ. Ψ) (Lifetime.g-forget U H A W E _ 8
+            Row.dead refl) (seq (Typed.both s42) (Plain.t-call-plain U H A W C 0 ps·3 r·3 (cl .6) (cl .7) "replies::list_done" (known .3) E (λ pos β. β) _
+            (record { pos = 11; st = []; d = 0; at = λ x. x }, tt) 0 [] (Call.sub-id U H A W _)
             ((copied (Declared.row ListOutcome.the-type) refl (Copies.cStruct ListOutcome.the-type ListOutcome′.the-laws ListOutcome′.the-copy .copy U H A W), refl), tt) (gone Replied′.mir)
             tt refl) d4)))))))
 
-        d20 : Typed.Typed U H A C E G29 b17 Δ1 at20
-        d20 = pre (room 20 y5 (Shared.room-sslice U H A W L.u64 y9 7)) (pre (room 7 Cache′.mir (Local.room-whole U H A W (Declared.row Cache.the-type) Cache′.mir refl)) (pre (end 5 refl)
-            (pre (Reborrow.g-back-mref U H A W E _ 16 2 0 5 (Array.Array L.u64 928) y1 y4 l0 (λ x. x) (λ x. x) (as-is r6) (as-is (Rows'.mref-owed (Array.Array L.u64 928) y1 0 5 l0)) refl
-            refl) (pre (Lifetime.g-forget U H A W E _ 5 Row.dead refl) (pre (end 6 refl) (pre (Relend.g-back-sl U H A W E S.row _ 18 3 1 6 y11 y13 l1 (λ x. x) (λ x. x) (as-is r23) (as-is
-            (Relend.mslice-owed S.row y11 1 6 l1)) refl refl) (pre (Lifetime.g-forget U H A W E _ 6 Row.dead refl) d12)))))))
+        d20 : Typed.Typed U H A C E (lives (Row.off ∷ Row.off ∷ Row.lease (κs .1 .1 .0) (qs .1 .1 .0) ∷ Row.off ∷ Row.off ∷ Row.alive ∷ Row.alive ∷ Row.alive ∷ Row.alive ∷ Row.off ∷ Row.off
+            ∷ Row.off ∷ Row.off ∷ []) (on 6 (Frozen.held (Frozen.fz-open Y.erased 3 (κs .1 .1 .1 .0) l2 (AsSlice.fz-lent-sl L.u64 6912 8))) (on 3 (Relend.mslice-owed S.row y11 1 6 l1) (on 2
+            (Rows'.mref-owed (Array.Array L.u64 928) y1 0 5 l0) T29)))) b17 Δ1 at20
+        d20 = pre (Typed.pass T29 T30 s27) (room 20 y5 (Shared.room-sslice U H A W L.u64 y9 7)) (pre (Typed.pass T30 T31 s28) (room 7 Cache′.mir (Local.room-whole U H A W (Declared.row
+            Cache.the-type) Cache′.mir refl)) (pre (λ Ψ. Ψ) (end 5 refl) (pre (Typed.ask s30) (Reborrow.g-back-mref U H A W E _ 16 2 0 5 (Array.Array L.u64 928) y1 y4 l0 (λ x. x) (λ x. x)
+            (as-is r6) (as-is (Rows'.mref-owed (Array.Array L.u64 928) y1 0 5 l0)) refl refl) (pre (λ Ψ. Ψ) (Lifetime.g-forget U H A W E _ 5 Row.dead refl) (pre (λ Ψ. Ψ) (end 6 refl) (pre
+            (Typed.both s33) (Relend.g-back-sl U H A W E S.row _ 18 3 1 6 y11 y13 l1 (λ x. x) (λ x. x) (as-is r23) (as-is (Relend.mslice-owed S.row y11 1 6 l1)) refl refl) (pre (λ Ψ. Ψ)
+            (Lifetime.g-forget U H A W E _ 6 Row.dead refl) d12)))))))
 
         d28 : Typed.Typed U H A C E (lives (Row.off ∷ Row.off ∷ Row.lease (κs .1 .1 .0) (qs .1 .1 .0) ∷ l2 ∷ Row.off ∷ Row.alive ∷ Row.alive ∷ Row.off ∷ Row.off ∷ Row.off ∷ Row.off ∷ Row.off
             ∷ Row.off ∷ []) (on 3 (Relend.mslice-owed S.row y11 1 6 l1) (on 2 (Rows'.mref-owed (Array.Array L.u64 928) y1 0 5 l0) T21))) b23 Δ1 at28
-        d28 = seq (Relend.t-sl-aggregate U H A W E S.row C (Relend.asMut S.row) _ 17 18 6 y13 y13 (λ x. x) (Scalar.oFld 3 (Y.field 1 ∷ []) (Y.tyInt Y.w64) 8 λ v. Shared.lenV (v .0)) (as-is
-            (Relend.msptr S.row y13 6)) (gone y10) (Relend.reads-owed-len U H A W S.row y11 1 6 l1 8 refl, refl) refl refl λ b o k. tt) (pre (begin 7 _) (seq (Share.t-arr-shareᵖ U H A W E C
-            L.u64 _ 8 19 8190 7 y3 (λ x. x) (λ u. u .1 .1 .1 .1 .1 .1 .1 .1 .1 .1 .0) (as-is r36) (gone y3) refl (λ b o. tt) (Dec'.lit< tt, Dec'.lit< tt)) (seq (Relend.t-sl-aggregate U H A W
-            E L.u64 C (Relend.asShr L.u64) _ 19 20 7 y3 y9 (λ x. x) (Scalar.oAt 10 (Y.tyInt Y.w64) (Row.valS (Row.sInt Y.w64))) (as-is (Relend.ssptr L.u64 y3 7)) (gone y5)
-            (Scalar.reads-sc U H A W (Row.sInt Y.w64), refl) refl refl λ b o k. tt) (pre (begin 8 _) (seq (AsSlice.t-way-lend-slice U H A W E C L.u64 tt 6912 (Dec'.lit< tt, Dec'.lit< tt) (λ
-            ρ. Path'._≡_ (Row.lft ρ 3) (κs .1 .1 .1 .0)) _ (Row.out 6 (G26 .locals)) (λ u. Row.drop 6 (G26 .locals) u) (Row.setLife 3 Row.off (G26 .slots)) 6 (λ t. Y.deref (Y.tyInt Y.w64) ∷
-            t) (Y.tyInt Y.w64) y8 21 8 (λ u. u .1 .1 .1 .1 .1 .1 .0 .now) (λ u. u .1 .1 .1 .1 .1 .1 .0 .ptr) (λ T′. record
+        d28 = seq (Typed.ask s19) (Relend.t-sl-aggregate U H A W E S.row C (Relend.asMut S.row) _ 17 18 6 y13 y13 (λ x. x) (Scalar.oFld 3 (Y.field 1 ∷ []) (Y.tyInt Y.w64) 8 λ v. Shared.lenV
+            (v .0)) (as-is (Relend.msptr S.row y13 6)) (gone y10) (Relend.reads-owed-len U H A W S.row y11 1 6 l1 8 refl, refl) refl refl λ b o k. tt) (pre (λ Ψ. Ψ) (begin 7 _) (seq
+            (Typed.both s21) (Share.t-arr-shareᵖ U H A W E C L.u64 _ 8 19 8190 7 y3 (λ x. x) (λ u. u .1 .1 .1 .1 .1 .1 .1 .1 .1 .1 .0) (as-is r36) (gone y3) refl (λ b o. tt)
+            (Dec'.lit< tt, Dec'.lit< tt)) (seq (Typed.ask s22) (Relend.t-sl-aggregate U H A W E L.u64 C (Relend.asShr L.u64) _ 19 20 7 y3 y9 (λ x. x) (Scalar.oAt 10 (Y.tyInt Y.w64) (Row.valS
+            (Row.sInt Y.w64))) (as-is (Relend.ssptr L.u64 y3 7)) (gone y5) (Scalar.reads-sc U H A W (Row.sInt Y.w64), refl) refl refl λ b o k. tt) (pre (λ Ψ. Ψ) (begin 8 _) (seq (Typed.both
+            s24) (AsSlice.t-way-lend-slice U H A W E C L.u64 tt 6912 (Dec'.lit< tt, Dec'.lit< tt) (λ ρ. Path'._≡_ (Row.lft ρ 3) (κs .1 .1 .1 .0)) _ (Row.out 6 (G26 .locals)) (λ u. Row.drop 6
+            (G26 .locals) u) (Row.setLife 3 Row.off (G26 .slots)) 6 (λ t. Y.deref (Y.tyInt Y.w64) ∷ t) (Y.tyInt Y.w64) y8 21 8 (λ u. u .1 .1 .1 .1 .1 .1 .0 .now) (λ u. u .1 .1 .1 .1 .1 .1 .0
+            .ptr) (λ T′. record
             { locals = Row.setRow 6 (6, Frozen.held (Frozen.fz-open Y.erased 3 (κs .1 .1 .1 .0) l2 (AsSlice.fz-lent-sl L.u64 6912 8))) T′; slots = Row.setLife 3 Row.off (G26 .slots) }) (λ u
             γ T′ m′. Row.set 6 (6, Frozen.held (Frozen.fz-open Y.erased 3 (κs .1 .1 .1 .0) l2 (AsSlice.fz-lent-sl L.u64 6912 8))) (u .1 .1 .1 .1 .1 .1 .0, γ) T′ m′) (λ u. Unit)
             (Call.pin-lease U H A W 3 (G26 .slots) (κs .1 .1 .1 .0) (qs .1 .1 .1 .0) refl) (λ ρ told u asked. WayLend.wt-mut U H A W E Y.erased 3 (κs .1 .1 .1 .0) l2 (AsSlice.fz-lent-sl
             L.u64 6912 8) y0 (Y.tyInt Y.w64) (u .1 .1 .1 .1 .1 .1 .0) (Wp.spotOf U H E 6 .1, 0) (WayLend.wt-mref U H A W E Y.erased (κs .1 .1 .1 .0) (Array.Array L.u64 6912) 3 y0
             (Frozen.fz-open Y.erased 3 (κs .1 .1 .1 .0) l2 (AsSlice.fz-lent-sl L.u64 6912 8)) refl _ ρ u (Row.setLife 3 Row.off (G26 .slots)) 6 (λ x. x) told (as-is r2)) refl (Row.setLife 3
-            Row.off (G26 .slots)) (Open.takes-whole U H A W 3 (G26 .slots) l2 refl tt) told) (gone y8) refl λ b o. tt) (seq (Relend.t-sl-aggregate U H A W E L.u64 C (Relend.asMut L.u64) _ 21
-            22 8 y8 y8 (λ x. x) (Scalar.oBig Y.w64 6912) (as-is (Relend.msptr L.u64 y8 8)) (gone y6) record { lower = record { fits = Dec'.lit< tt } } refl refl λ b o k. tt) (seq
-            (Plain.t-call-plain U H A W C 4 ps·2 r·2 (cl .4) (cl .5) "datasample_access::take_by_keys" (known .2) E (λ pos β. β) _
+            Row.off (G26 .slots)) (Open.takes-whole U H A W 3 (G26 .slots) l2 refl tt) told) (gone y8) refl λ b o. tt) (seq (Typed.ask s25) (Relend.t-sl-aggregate U H A W E L.u64 C
+            (Relend.asMut L.u64) _ 21 22 8 y8 y8 (λ x. x) (Scalar.oBig Y.w64 6912) (as-is (Relend.msptr L.u64 y8 8)) (gone y6) record { lower = record { fits = Dec'.lit< tt } } refl refl λ b
+            o k. tt) (seq (Typed.both s26) (Plain.t-call-plain U H A W C 4 ps·2 r·2 (cl .4) (cl .5) "datasample_access::take_by_keys" (known .2) E (λ pos β. β) _
             (record { pos = 7; st = []; d = 0; at = λ x. x }, (record { pos = 16; ty = y4; ref = λ x. x }, (record { pos = 18; ty = y13; ref = λ x. x }, (record { pos = 20; ty = y9; ref = λ x. x }, (record { pos = 22; ty = y8; ref = λ x. x }, tt)))))
             11 (5 ∷ 6 ∷ 7 ∷ 8 ∷ []) (Call.sub-id U H A W _)
             ((copied (Declared.row Cache.the-type) refl (Copies.cStruct Cache.the-type Cache′.the-laws Cache′.the-copy .copy U H A W), refl), (as-is r4, Reads.reads-mref U H A W (Array.Array L.u64 928) y4 5, refl, (as-is r22, Mut.reads-mslice U H A W S.row y13 6, refl, (ShrSlice.spares-sslice U H A W L.u64 y9 7, Shared.reads-sslice U H A W L.u64 y9 7, refl, (as-is (Mut.mslice L.u64 y8 8), Mut.reads-mslice U H A W L.u64 y8 8, refl, tt)))))
             (gone ListOutcome′.mir) (tt, (tt, (tt, (tt, tt)))) refl) d20)))))))
 
         d33 : Typed.Typed U H A C E G15 b25 Δ1 at33
-        d33 = pre (room 15 Y.tyBool (room-sc Row.sBool)) (pre (begin 5 _) (seq (Reborrow.t-mref-relend U H A W E C _ 2 16 0 5 (Array.Array L.u64 928) y15 y1 y4 l0 (λ x. x) (as-is r3) (gone
-            y4) refl tt refl refl λ b o. tt) (pre (begin 6 _) (seq (Relend.t-sl-relend U H A W E S.row C _ 3 17 1 6 y11 y13 l1 0 (λ x. x) (as-is r19) (gone y13) refl tt refl refl refl λ b o.
-            tt) d28))))
+        d33 = pre (Typed.pass T15 T14 s14) (room 15 Y.tyBool (room-sc Row.sBool)) (pre (λ Ψ. Ψ) (begin 5 _) (seq (Typed.give s16) (Reborrow.t-mref-relend U H A W E C _ 2 16 0 5 (Array.Array
+            L.u64 928) y15 y1 y4 l0 (λ x. x) (as-is r3) (gone y4) refl tt refl refl λ b o. tt) (pre (λ Ψ. Ψ) (begin 6 _) (seq (Typed.give s18) (Relend.t-sl-relend U H A W E S.row C _ 3 17 1
+            6 y11 y13 l1 0 (λ x. x) (as-is r19) (gone y13) refl tt refl refl refl λ b o. tt) d28))))
 
         d35 : Typed.Typed U H A C E G15 b26 Δ1 at35
-        d35 = pre (room 15 Y.tyBool (room-sc Row.sBool)) (Typed.t-skip U H A W C E Δ1 tt)
+        d35 = pre (Typed.pass T15 T14 s14) (room 15 Y.tyBool (room-sc Row.sBool)) (Typed.t-skip U H A W C E Δ1 tt)
 
         d36 : Typed.Typed U H A C E G15 b27 Δ1 at36
         d36 = Scalar.t-cond U H A W E C _ 15 (λ x. x) b25 b26 Δ1 at33 at35 (Scalar.reads-sc U H A W Row.sBool) refl d33 d35
 
         d41 : Typed.Typed U H A C E (lives z0 T78) b16 Δ0 at41
-        d41 = pre (room 9 (Y.tyInt Y.w64) (room-sc (Row.sInt Y.w64))) (pre (room 10 (Y.tyInt Y.w64) (room-sc (Row.sInt Y.w64))) (pre (room 12 ListOutcome′.mir (Local.room-whole U H A W
-            (Declared.row ListOutcome.the-type) ListOutcome′.mir refl)) (pre (room 5 Y.tyBool (room-sc Row.sBool)) (Typed.t-return U H A W C E Δ0 tt))))
+        d41 = pre (Typed.pass T78 T79 s76) (room 9 (Y.tyInt Y.w64) (room-sc (Row.sInt Y.w64))) (pre (Typed.pass T79 T80 s77) (room 10 (Y.tyInt Y.w64) (room-sc (Row.sInt Y.w64))) (pre
+            (Typed.pass T80 T81 s78) (room 12 ListOutcome′.mir (Local.room-whole U H A W (Declared.row ListOutcome.the-type) ListOutcome′.mir refl)) (pre (Typed.pass T81 T1 s79) (room 5
+            Y.tyBool (room-sc Row.sBool)) (Typed.t-return U H A W C E Δ0 tt))))
 
-        d49 : Typed.Typed U H A C E G70 b38 Δ0 at49
-        d49 = pre (end 11 refl) (pre (Share.g-back-arr-shrᵖ U H A W E L.u64 _ 8 8190 11 (λ x. x) (as-is r32) refl) (pre (Lifetime.g-forget U H A W E _ 11 Row.dead refl) (pre (room 8 y12
-            (Init.room-arr U H A W L.u64 8190 0 8190 refl)) (pre (end 12 refl) (pre (WayLend.g-way-back U H A W E (Frozen.fz-open Y.erased 3 (κs .1 .1 .1 .0) l2 (AsSlice.fz-lent-sl L.u64
-            6912 12)) _ 29 6 r2 y8 (Row.setLife 3 l2 (G75 .slots)) (λ x. x) (λ x. x) (λ x. x) (as-is r17) (as-is (Frozen.held (Frozen.fz-open Y.erased 3 (κs .1 .1 .1 .0) l2
-            (AsSlice.fz-lent-sl L.u64 6912 12)))) refl (WayLend.puts-open U H A Y.erased 3 (κs .1 .1 .1 .0) l2 (AsSlice.fz-lent-sl L.u64 6912 12) (G75 .slots) (G75 .slots) (Row.setLife 3 l2
-            (G75 .slots)) (AsSlice.puts-none-sl U H A L.u64 6912 12 (G75 .slots)) (Open.puts-whole U H A W 3 l2 (G75 .slots) refl)) λ ρ pins. Local.mref-mem U H A W Y.erased (κs .1 .1 .1 .0)
-            (Array.Array L.u64 6912) 3 y0 refl ρ (pins .0)) (pre (Lifetime.g-forget U H A W E _ 12 Row.dead refl) (seq (Plain.t-call-plain U H A W C 0 ps·3 r·3 (cl .6) (cl .7)
-            "replies::list_done" (known .3) E (λ pos β. β) _ (record { pos = 12; st = []; d = 0; at = λ x. x }, tt) 0 [] (Call.sub-id U H A W _)
+        d49 : Typed.Typed U H A C E (lives (l0 ∷ l1 ∷ Row.lease (κs .1 .1 .0) (qs .1 .1 .0) ∷ Row.off ∷ Row.off ∷ Row.off ∷ Row.off ∷ Row.off ∷ Row.off ∷ Row.off ∷ Row.off ∷ Row.alive ∷
+            Row.alive ∷ []) (on 6 (Frozen.held (Frozen.fz-open Y.erased 3 (κs .1 .1 .1 .0) l2 (AsSlice.fz-lent-sl L.u64 6912 12))) T69)) b38 Δ0 at49
+        d49 = pre (λ Ψ. Ψ) (end 11 refl) (pre (Typed.pass T69 T72 s69) (Share.g-back-arr-shrᵖ U H A W E L.u64 _ 8 8190 11 (λ x. x) (as-is r32) refl) (pre (λ Ψ. Ψ) (Lifetime.g-forget U H A W
+            E _ 11 Row.dead refl) (pre (Typed.pass T72 T74 s71) (room 8 y12 (Init.room-arr U H A W L.u64 8190 0 8190 refl)) (pre (λ Ψ. Ψ) (end 12 refl) (pre (Typed.ask s73)
+            (WayLend.g-way-back U H A W E (Frozen.fz-open Y.erased 3 (κs .1 .1 .1 .0) l2 (AsSlice.fz-lent-sl L.u64 6912 12)) _ 29 6 r2 y8 (Row.setLife 3 l2 (G75 .slots)) (λ x. x) (λ x. x) (λ
+            x. x) (as-is r17) (as-is (Frozen.held (Frozen.fz-open Y.erased 3 (κs .1 .1 .1 .0) l2 (AsSlice.fz-lent-sl L.u64 6912 12)))) refl (WayLend.puts-open U H A Y.erased 3 (κs .1 .1 .1
+            .0) l2 (AsSlice.fz-lent-sl L.u64 6912 12) (G75 .slots) (G75 .slots) (Row.setLife 3 l2 (G75 .slots)) (AsSlice.puts-none-sl U H A L.u64 6912 12 (G75 .slots)) (Open.puts-whole U H A
+            W 3 l2 (G75 .slots) refl)) λ ρ pins. Local.mref-mem U H A W Y.erased (κs .1 .1 .1 .0) (Array.Array L.u64 6912) 3 y0 refl ρ (pins .0)) (pre (λ Ψ. Ψ) (Lifetime.g-forget U H A W E _
+            12 Row.dead refl) (seq (Typed.both s75) (Plain.t-call-plain U H A W C 0 ps·3 r·3 (cl .6) (cl .7) "replies::list_done" (known .3) E (λ pos β. β) _
+            (record { pos = 12; st = []; d = 0; at = λ x. x }, tt) 0 [] (Call.sub-id U H A W _)
             ((copied (Declared.row ListOutcome.the-type) refl (Copies.cStruct ListOutcome.the-type ListOutcome′.the-laws ListOutcome′.the-copy .copy U H A W), refl), tt) (gone Replied′.mir)
             tt refl) d41)))))))
 
-        d57 : Typed.Typed U H A C E G62 b38 Δ0 at57
-        d57 = pre (room 27 y5 (Shared.room-sslice U H A W L.u64 y9 11)) (pre (room 7 Cache′.mir (Local.room-whole U H A W (Declared.row Cache.the-type) Cache′.mir refl)) (pre (end 9 refl)
-            (pre (Reborrow.g-back-mref U H A W E _ 23 2 0 9 (Array.Array L.u64 928) y1 y4 l0 (λ x. x) (λ x. x) (as-is r6) (as-is (Rows'.mref-owed (Array.Array L.u64 928) y1 0 9 l0)) refl
-            refl) (pre (Lifetime.g-forget U H A W E _ 9 Row.dead refl) (pre (end 10 refl) (pre (Relend.g-back-sl U H A W E S.row _ 25 3 1 10 y11 y13 l1 (λ x. x) (λ x. x) (as-is r23) (as-is
-            (Relend.mslice-owed S.row y11 1 10 l1)) refl refl) (pre (Lifetime.g-forget U H A W E _ 10 Row.dead refl) d49)))))))
+        d57 : Typed.Typed U H A C E (lives (Row.off ∷ Row.off ∷ Row.lease (κs .1 .1 .0) (qs .1 .1 .0) ∷ Row.off ∷ Row.off ∷ Row.off ∷ Row.off ∷ Row.off ∷ Row.off ∷ Row.alive ∷ Row.alive ∷
+            Row.alive ∷ Row.alive ∷ []) (on 6 (Frozen.held (Frozen.fz-open Y.erased 3 (κs .1 .1 .1 .0) l2 (AsSlice.fz-lent-sl L.u64 6912 12))) (on 3 (Relend.mslice-owed S.row y11 1 10 l1)
+            (on 2 (Rows'.mref-owed (Array.Array L.u64 928) y1 0 9 l0) T62)))) b38 Δ0 at57
+        d57 = pre (Typed.pass T62 T63 s60) (room 27 y5 (Shared.room-sslice U H A W L.u64 y9 11)) (pre (Typed.pass T63 T64 s61) (room 7 Cache′.mir (Local.room-whole U H A W (Declared.row
+            Cache.the-type) Cache′.mir refl)) (pre (λ Ψ. Ψ) (end 9 refl) (pre (Typed.ask s63) (Reborrow.g-back-mref U H A W E _ 23 2 0 9 (Array.Array L.u64 928) y1 y4 l0 (λ x. x) (λ x. x)
+            (as-is r6) (as-is (Rows'.mref-owed (Array.Array L.u64 928) y1 0 9 l0)) refl refl) (pre (λ Ψ. Ψ) (Lifetime.g-forget U H A W E _ 9 Row.dead refl) (pre (λ Ψ. Ψ) (end 10 refl) (pre
+            (Typed.both s66) (Relend.g-back-sl U H A W E S.row _ 25 3 1 10 y11 y13 l1 (λ x. x) (λ x. x) (as-is r23) (as-is (Relend.mslice-owed S.row y11 1 10 l1)) refl refl) (pre (λ Ψ. Ψ)
+            (Lifetime.g-forget U H A W E _ 10 Row.dead refl) d49)))))))
 
         d65 : Typed.Typed U H A C E (lives (Row.off ∷ Row.off ∷ Row.lease (κs .1 .1 .0) (qs .1 .1 .0) ∷ l2 ∷ Row.off ∷ Row.off ∷ Row.off ∷ Row.off ∷ Row.off ∷ Row.alive ∷ Row.alive ∷ Row.off
             ∷ Row.off ∷ []) (on 3 (Relend.mslice-owed S.row y11 1 10 l1) (on 2 (Rows'.mref-owed (Array.Array L.u64 928) y1 0 9 l0) T54))) b44 Δ0 at65
-        d65 = seq (Relend.t-sl-aggregate U H A W E S.row C (Relend.asMut S.row) _ 24 25 10 y13 y13 (λ x. x) (Scalar.oFld 3 (Y.field 1 ∷ []) (Y.tyInt Y.w64) 8 λ v. Shared.lenV (v .0)) (as-is
-            (Relend.msptr S.row y13 10)) (gone y10) (Relend.reads-owed-len U H A W S.row y11 1 10 l1 8 refl, refl) refl refl λ b o k. tt) (pre (begin 11 _) (seq (Share.t-arr-shareᵖ U H A W E
-            C L.u64 _ 8 26 8190 11 y3 (λ x. x) (λ u. u .1 .1 .1 .1 .1 .1 .1 .1 .1 .1 .0) (as-is r36) (gone y3) refl (λ b o. tt) (Dec'.lit< tt, Dec'.lit< tt)) (seq (Relend.t-sl-aggregate U H
-            A W E L.u64 C (Relend.asShr L.u64) _ 26 27 11 y3 y9 (λ x. x) (Scalar.oAt 10 (Y.tyInt Y.w64) (Row.valS (Row.sInt Y.w64))) (as-is (Relend.ssptr L.u64 y3 11)) (gone y5)
-            (Scalar.reads-sc U H A W (Row.sInt Y.w64), refl) refl refl λ b o k. tt) (pre (begin 12 _) (seq (AsSlice.t-way-lend-slice U H A W E C L.u64 tt 6912 (Dec'.lit< tt, Dec'.lit< tt) (λ
-            ρ. Path'._≡_ (Row.lft ρ 3) (κs .1 .1 .1 .0)) _ (Row.out 6 (G59 .locals)) (λ u. Row.drop 6 (G59 .locals) u) (Row.setLife 3 Row.off (G59 .slots)) 6 (λ t. Y.deref (Y.tyInt Y.w64) ∷
-            t) (Y.tyInt Y.w64) y8 28 12 (λ u. u .1 .1 .1 .1 .1 .1 .0 .now) (λ u. u .1 .1 .1 .1 .1 .1 .0 .ptr) (λ T′. record
+        d65 = seq (Typed.ask s52) (Relend.t-sl-aggregate U H A W E S.row C (Relend.asMut S.row) _ 24 25 10 y13 y13 (λ x. x) (Scalar.oFld 3 (Y.field 1 ∷ []) (Y.tyInt Y.w64) 8 λ v. Shared.lenV
+            (v .0)) (as-is (Relend.msptr S.row y13 10)) (gone y10) (Relend.reads-owed-len U H A W S.row y11 1 10 l1 8 refl, refl) refl refl λ b o k. tt) (pre (λ Ψ. Ψ) (begin 11 _) (seq
+            (Typed.both s54) (Share.t-arr-shareᵖ U H A W E C L.u64 _ 8 26 8190 11 y3 (λ x. x) (λ u. u .1 .1 .1 .1 .1 .1 .1 .1 .1 .1 .0) (as-is r36) (gone y3) refl (λ b o. tt)
+            (Dec'.lit< tt, Dec'.lit< tt)) (seq (Typed.ask s55) (Relend.t-sl-aggregate U H A W E L.u64 C (Relend.asShr L.u64) _ 26 27 11 y3 y9 (λ x. x) (Scalar.oAt 10 (Y.tyInt Y.w64)
+            (Row.valS (Row.sInt Y.w64))) (as-is (Relend.ssptr L.u64 y3 11)) (gone y5) (Scalar.reads-sc U H A W (Row.sInt Y.w64), refl) refl refl λ b o k. tt) (pre (λ Ψ. Ψ) (begin 12 _) (seq
+            (Typed.both s57) (AsSlice.t-way-lend-slice U H A W E C L.u64 tt 6912 (Dec'.lit< tt, Dec'.lit< tt) (λ ρ. Path'._≡_ (Row.lft ρ 3) (κs .1 .1 .1 .0)) _ (Row.out 6 (G59 .locals)) (λ
+            u. Row.drop 6 (G59 .locals) u) (Row.setLife 3 Row.off (G59 .slots)) 6 (λ t. Y.deref (Y.tyInt Y.w64) ∷ t) (Y.tyInt Y.w64) y8 28 12 (λ u. u .1 .1 .1 .1 .1 .1 .0 .now) (λ u. u .1 .1
+            .1 .1 .1 .1 .0 .ptr) (λ T′. record
             { locals = Row.setRow 6 (6, Frozen.held (Frozen.fz-open Y.erased 3 (κs .1 .1 .1 .0) l2 (AsSlice.fz-lent-sl L.u64 6912 12))) T′; slots = Row.setLife 3 Row.off (G59 .slots) }) (λ u
             γ T′ m′. Row.set 6 (6, Frozen.held (Frozen.fz-open Y.erased 3 (κs .1 .1 .1 .0) l2 (AsSlice.fz-lent-sl L.u64 6912 12))) (u .1 .1 .1 .1 .1 .1 .0, γ) T′ m′) (λ u. Unit)
             (Call.pin-lease U H A W 3 (G59 .slots) (κs .1 .1 .1 .0) (qs .1 .1 .1 .0) refl) (λ ρ told u asked. WayLend.wt-mut U H A W E Y.erased 3 (κs .1 .1 .1 .0) l2 (AsSlice.fz-lent-sl
             L.u64 6912 12) y0 (Y.tyInt Y.w64) (u .1 .1 .1 .1 .1 .1 .0) (Wp.spotOf U H E 6 .1, 0) (WayLend.wt-mref U H A W E Y.erased (κs .1 .1 .1 .0) (Array.Array L.u64 6912) 3 y0
             (Frozen.fz-open Y.erased 3 (κs .1 .1 .1 .0) l2 (AsSlice.fz-lent-sl L.u64 6912 12)) refl _ ρ u (Row.setLife 3 Row.off (G59 .slots)) 6 (λ x. x) told (as-is r2)) refl (Row.setLife 3
-            Row.off (G59 .slots)) (Open.takes-whole U H A W 3 (G59 .slots) l2 refl tt) told) (gone y8) refl λ b o. tt) (seq (Relend.t-sl-aggregate U H A W E L.u64 C (Relend.asMut L.u64) _ 28
-            29 12 y8 y8 (λ x. x) (Scalar.oBig Y.w64 6912) (as-is (Relend.msptr L.u64 y8 12)) (gone y6) record { lower = record { fits = Dec'.lit< tt } } refl refl λ b o k. tt) (seq
-            (Plain.t-call-plain U H A W C 4 ps·2 r·2 (cl .8) (cl .9) "datasample_access::read_by_keys" (known .4) E (λ pos β. β) _
+            Row.off (G59 .slots)) (Open.takes-whole U H A W 3 (G59 .slots) l2 refl tt) told) (gone y8) refl λ b o. tt) (seq (Typed.ask s58) (Relend.t-sl-aggregate U H A W E L.u64 C
+            (Relend.asMut L.u64) _ 28 29 12 y8 y8 (λ x. x) (Scalar.oBig Y.w64 6912) (as-is (Relend.msptr L.u64 y8 12)) (gone y6) record { lower = record { fits = Dec'.lit< tt } } refl refl λ
+            b o k. tt) (seq (Typed.both s59) (Plain.t-call-plain U H A W C 4 ps·2 r·2 (cl .8) (cl .9) "datasample_access::read_by_keys" (known .4) E (λ pos β. β) _
             (record { pos = 7; st = []; d = 0; at = λ x. x }, (record { pos = 23; ty = y4; ref = λ x. x }, (record { pos = 25; ty = y13; ref = λ x. x }, (record { pos = 27; ty = y9; ref = λ x. x }, (record { pos = 29; ty = y8; ref = λ x. x }, tt)))))
             12 (9 ∷ 10 ∷ 11 ∷ 12 ∷ []) (Call.sub-id U H A W _)
             ((copied (Declared.row Cache.the-type) refl (Copies.cStruct Cache.the-type Cache′.the-laws Cache′.the-copy .copy U H A W), refl), (as-is r5, Reads.reads-mref U H A W (Array.Array L.u64 928) y4 9, refl, (as-is r21, Mut.reads-mslice U H A W S.row y13 10, refl, (ShrSlice.spares-sslice U H A W L.u64 y9 11, Shared.reads-sslice U H A W L.u64 y9 11, refl, (as-is (Mut.mslice L.u64 y8 12), Mut.reads-mslice U H A W L.u64 y8 12, refl, tt)))))
             (gone ListOutcome′.mir) (tt, (tt, (tt, (tt, tt)))) refl) d57)))))))
 
         d69 : Typed.Typed U H A C E G14 b46 Δ0 at69
-        d69 = pre (begin 9 _) (seq (Reborrow.t-mref-relend U H A W E C _ 2 23 0 9 (Array.Array L.u64 928) y15 y1 y4 l0 (λ x. x) (as-is r3) (gone y4) refl tt refl refl λ b o. tt) (pre (begin
-            10 _) (seq (Relend.t-sl-relend U H A W E S.row C _ 3 24 1 10 y11 y13 l1 0 (λ x. x) (as-is r19) (gone y13) refl tt refl refl refl λ b o. tt) d65)))
+        d69 = pre (λ Ψ. Ψ) (begin 9 _) (seq (Typed.give s49) (Reborrow.t-mref-relend U H A W E C _ 2 23 0 9 (Array.Array L.u64 928) y15 y1 y4 l0 (λ x. x) (as-is r3) (gone y4) refl tt refl
+            refl λ b o. tt) (pre (λ Ψ. Ψ) (begin 10 _) (seq (Typed.give s51) (Relend.t-sl-relend U H A W E S.row C _ 3 24 1 10 y11 y13 l1 0 (λ x. x) (as-is r19) (gone y13) refl tt refl refl
+            refl λ b o. tt) d65)))
 
         d71 : Typed.Typed U H A C E G14 b48 Δ0 at71
-        d71 = seq (Scalar.t-use U H A W E C _ (Scalar.oAt 5 Y.tyBool (Row.valS Row.sBool)) 15 L.hbool Y.tyBool (Row.valS Row.sBool) (Row.sBool .of) (Scalar.reads-sc U H A W Row.sBool, refl)
-            (gone Y.tyBool) (Scalar.holds-sc U H A W Row.sBool) refl (λ u. refl) λ u. tt) (Typed.t-seq U H A W C E _ _ b27 b46 Δ0 at36 at69 d36 d69)
+        d71 = seq (Typed.pass T14 T15 s13) (Scalar.t-use U H A W E C _ (Scalar.oAt 5 Y.tyBool (Row.valS Row.sBool)) 15 L.hbool Y.tyBool (Row.valS Row.sBool) (Row.sBool .of)
+            (Scalar.reads-sc U H A W Row.sBool, refl) (gone Y.tyBool) (Scalar.holds-sc U H A W Row.sBool) refl (λ u. refl) λ u. tt) (Typed.t-seq U H A W C E _ _ b27 b46 Δ0 at36 at69 d36 d69)
 
         d75 : Typed.Typed U H A C E (lives z1 T10) b49 Δ0 at75
-        d75 = pre (end 4 refl) (pre (Borrow.g-back-arr U H A W E L.u64 _ 14 8 4 8190 y8 (λ x. x) (λ x. x) (as-is r17) (as-is r33) refl) (pre (Lifetime.g-forget U H A W E _ 4 Row.dead refl)
-            (seq (Plain.t-call-plain U H A W C 0 ps·1 r·1 (cl .2) (cl .3) "replies::at_most" (known .1) E (λ pos β. β) _ (Num.vAt 9 λ x. x, (Num.vBig 8190, tt)) 10 [] (Call.sub-id U H A W _)
-            ((Scalar.reads-sc U H A W (Row.sInt Y.w64), refl), (record { lower = record { fits = Dec'.lit< tt } }, tt)) (gone (Y.tyInt Y.w64)) tt refl) d71)))
+        d75 = pre (λ Ψ. Ψ) (end 4 refl) (pre (Typed.both s10) (Borrow.g-back-arr U H A W E L.u64 _ 14 8 4 8190 y8 (λ x. x) (λ x. x) (as-is r17) (as-is r33) refl) (pre (λ Ψ. Ψ)
+            (Lifetime.g-forget U H A W E _ 4 Row.dead refl) (seq (Typed.both s12) (Plain.t-call-plain U H A W C 0 ps·1 r·1 (cl .2) (cl .3) "replies::at_most" (known .1) E (λ pos β. β) _
+            (Num.vAt 9 λ x. x, (Num.vBig 8190, tt)) 10 [] (Call.sub-id U H A W _) ((Scalar.reads-sc U H A W (Row.sInt Y.w64), refl), (record { lower = record { fits = Dec'.lit< tt } }, tt))
+            (gone (Y.tyInt Y.w64)) tt refl) d71)))
 
         d77 : Typed.Typed U H A C E (lives z1 T8) b51 Δ0 at77
-        d77 = seq (Relend.t-sl-aggregate U H A W E L.u64 C (Relend.asMut L.u64) _ 13 14 4 y2 y8 (λ x. x) (Scalar.oBig Y.w64 8190) (as-is (Relend.msptr L.u64 y2 4)) (gone y6) record
-            { lower = record { fits = Dec'.lit< tt } } refl refl λ b o k. tt) (seq (Plain.t-call-plain U H A W C 2 ps·0 r·0 (cl .0) (cl .1) "records::pairs_of" (known .0) E (λ pos β. β) _
-            (record { pos = 4; ty = y7; ref = λ x. x }, (record { pos = 14; ty = y8; ref = λ x. x }, tt)) 9 (2 ∷ 4 ∷ []) (Call.sub-id U H A W _)
+        d77 = seq (Typed.ask s7) (Relend.t-sl-aggregate U H A W E L.u64 C (Relend.asMut L.u64) _ 13 14 4 y2 y8 (λ x. x) (Scalar.oBig Y.w64 8190) (as-is (Relend.msptr L.u64 y2 4)) (gone y6)
+            record { lower = record { fits = Dec'.lit< tt } } refl refl λ b o k. tt) (seq (Typed.both s8) (Plain.t-call-plain U H A W C 2 ps·0 r·0 (cl .0) (cl .1) "records::pairs_of" (known
+            .0) E (λ pos β. β) _ (record { pos = 4; ty = y7; ref = λ x. x }, (record { pos = 14; ty = y8; ref = λ x. x }, tt)) 9 (2 ∷ 4 ∷ []) (Call.sub-id U H A W _)
             (ShrSlice.spares-sslice U H A W L.u8 y7 2, Shared.reads-sslice U H A W L.u8 y7 2, refl, (as-is (Mut.mslice L.u64 y8 4), Mut.reads-mslice U H A W L.u64 y8 4, refl, tt)) (gone
             (Y.tyInt Y.w64)) (tt, (tt, tt)) refl) d75)
 
         d78 : Typed.Typed U H A C E (lives z1 T6) b52 Δ0 (at78 bs)
-        d78 = seq (Borrow.t-arr-borrow U H A W E C L.u64 _ 8 13 8190 4 y2 (λ x. x) (as-is r36) (gone y2) refl (λ b o. tt) (Dec'.lit< tt, Dec'.lit< tt)) d77
+        d78 = seq (Typed.give (s6 bs)) (Borrow.t-arr-borrow U H A W E C L.u64 _ 8 13 8190 4 y2 (λ x. x) (as-is r36) (gone y2) refl (λ b o. tt) (Dec'.lit< tt, Dec'.lit< tt)) d77
 
         d79 : Typed.Typed U H A C E (lives z0 T6) b52 Δ0 (at79 bs)
-        d79 = pre (begin 4 _) d78
+        d79 = pre (λ Ψ. Ψ) (begin 4 _) d78
 
         d80 : Typed.Typed U H A C E G5 b52 Δ0 (at80 bs)
-        d80 = pre (AtSlots.g-as-by U H A W E (λ ρ. Unit) _ 8 r36 (λ x. x) (Own.told-none U H A (G5 .slots)) λ ρ told. Repeat.whole-arr U H A W L.u64 8190 tt ρ) d79
+        d80 = pre (Typed.pass T5 T6 s4) (AtSlots.g-as-by U H A W E (λ ρ. Unit) _ 8 r36 (λ x. x) (Own.told-none U H A (G5 .slots)) λ ρ told. Repeat.whole-arr U H A W L.u64 8190 tt ρ) d79
 
         d81 : Typed.Typed U H A C E (lives z0 T4) b53 Δ0 (at81 bs)
-        d81 = seq (Repeat.t-repeat U H A W E C L.u64 (Plain'.uint-lawful U H A W Y.w64) (Copies.cRf (Referent.fInt Y.w64) .copy U H A W) (Plain'.uint-makes U H A W Y.w64) 8190 _ 8
-            (Scalar.oInt Y.w64 0) (λ m. 0) (gone y12) tt refl λ m wa. (refl, Dec'.lit< tt)) d80
+        d81 = seq (Typed.pass T4 T5 s3) (Repeat.t-repeat U H A W E C L.u64 (Plain'.uint-lawful U H A W Y.w64) (Copies.cRf (Referent.fInt Y.w64) .copy U H A W) (Plain'.uint-makes U H A W
+            Y.w64) 8190 _ 8 (Scalar.oInt Y.w64 0) (λ m. 0) (gone y12) tt refl λ m wa. (refl, Dec'.lit< tt)) d80
 
         d82 : Typed.Typed U H A C E (lives z0 T3) b53 Δ0 (at82 bs)
-        d82 = pre (room 1 Session′.mir (Local.room-whole U H A W (Declared.row Session.the-type) Session′.mir refl)) d81
+        d82 = pre (Typed.pass T3 T4 s2) (room 1 Session′.mir (Local.room-whole U H A W (Declared.row Session.the-type) Session′.mir refl)) d81
 
         d83 : Typed.Typed U H A C E G0 b54 Δ0 (at83 bs)
-        d83 = seq (WayStmt.t-way-copy-out U H A W E C (Declared.row Cache.the-type) refl (Copies.cStruct Cache.the-type Cache′.the-laws Cache′.the-copy .copy U H A W) (λ ρ. Unit) _ (Row.out
-            1 (G0 .locals)) (λ u. Row.drop 1 (G0 .locals) u) (G0 .slots) 1 (λ t. Y.field 0 ∷ t) Cache′.mir Cache′.mir 7 r28 (λ x. x) (λ u. At.getAt (Session.the-type .parts) 0
-            (Session.struct .as-values (u .1 .0))) (λ u. (Row.rd 0 1 bs, Nat._+_ 0 0)) (λ T′. record
+        d83 = seq (Typed.both s1) (WayStmt.t-way-copy-out U H A W E C (Declared.row Cache.the-type) refl (Copies.cStruct Cache.the-type Cache′.the-laws Cache′.the-copy .copy U H A W) (λ ρ.
+            Unit) _ (Row.out 1 (G0 .locals)) (λ u. Row.drop 1 (G0 .locals) u) (G0 .slots) 1 (λ t. Y.field 0 ∷ t) Cache′.mir Cache′.mir 7 r28 (λ x. x) (λ u. At.getAt (Session.the-type .parts)
+            0 (Session.struct .as-values (u .1 .0))) (λ u. (Row.rd 0 1 bs, Nat._+_ 0 0)) (λ T′. record
             { locals = Row.setRow 1 (1, Rows'.whole (Declared.row Session.the-type)) T′; slots = G0 .slots }) (λ u T′ m′. Row.set 1 (1, Rows'.whole (Declared.row Session.the-type)) (u .1 .0)
             T′ m′) (λ u. Unit) (λ x. Unit) (Own.told-none U H A (G0 .slots)) (DerefMove.learns-nothing U H A (Declared.row Cache.the-type)) (λ ρ told u asked. Way'.w-partˢ U H A W E
             (Declared.row Session.the-type) (Declared.row Cache.the-type) Session′.mir Cache′.mir 0 0 (u .1 .0) (At.getAt (Session.the-type .parts) 0 (Session.struct .as-values (u .1 .0)))
@@ -1038,7 +1116,8 @@ module _ (cl : Claims) where
             x. x) λ ρ told. Local.whole-mem U H A W (Declared.row Cache.the-type) ρ) refl refl refl) d82
 
         d84 : Typed.Typed U H A C E G0 b54 Δ0 (at84 bs)
-        d84 = pre (Know.g-shs-known U H A W (Referent.fInt Y.w8) E _ 4 2 y7 (Row.lease (κs .1 .1 .0) (qs .1 .1 .0)) 0 (λ x. x) record { fits = Dec'.lit< tt } (as-is r12) refl tt) d83
+        d84 = pre (Typed.give s0) (Know.g-shs-known U H A W (Referent.fInt Y.w8) E _ 4 2 y7 (Row.lease (κs .1 .1 .0) (qs .1 .1 .0)) 0 (λ x. x) record { fits = Dec'.lit< tt } (as-is r12) refl
+            tt) d83
 
         pub typed : Typed.Typed U H A C E (Function.Γin 4 ps r xs m κs qs) b54 (Function.Δret 4 ps r xs m κs qs) (Φ bs)
         typed = d84

@@ -76,6 +76,9 @@ y1 = Y.tyRef Y.erased Y.mut y4
 abbrev y0 : Y.Ty
 y0 = Y.tyRef (Y.named 0) Y.mut y4
 
+abbrev r0 : Row.Row
+r0 = Rows.mref-owed (Array.Array L.u64 928) y0 0 2 Row.off
+
 abbrev r1 : Row.Row
 r1 = Rows.mref (Array.Array L.u64 928) y0 0
 
@@ -87,6 +90,9 @@ r3 = Rows.mleft (Array.Array L.u64 928) y1
 
 abbrev r4 : Row.Row
 r4 = Relend.mslice-owed S.row y2 1 3 Row.off
+
+abbrev r5 : Row.Row
+r5 = Rows.any-gone y1
 
 abbrev r6 : Row.Row
 r6 = Mut.mslice S.row y2 1
@@ -106,11 +112,17 @@ r10 = Mut.msleft S.row y3
 abbrev r11 : Row.Row
 r11 = Rows.whole (Declared.row SetUpOutcome.the-type)
 
+abbrev r12 : Row.Row
+r12 = Rows.any-gone y3
+
 abbrev r13 : Row.Row
 r13 = Rows.whole (Declared.row SetUp.the-type)
 
 abbrev r14 : Row.Row
 r14 = Rows.whole (Declared.row Cache.the-type)
+
+abbrev r15 : Row.Row
+r15 = Rows.any-gone SetUpOutcome′.mir
 
 abbrev r16 : Row.Row
 r16 = Rows.any-gone Replied′.mir
@@ -174,8 +186,16 @@ abbrev pub Claims : Type 1
 Claims = Kinds.In 2 ps·0 × Kinds.Out 2 ps·0 r·0 × Kinds.In 0 ps·1 × Kinds.Out 0 ps·1 r·1
 
 abbrev t0 : List.List Row.Entry
-t0 = (0, r16) ∷ (1, Rows.whole (Declared.row Session.the-type)) ∷ (2, r1) ∷ (3, r6) ∷ (4, r13) ∷ (5, r18) ∷ (6, (Rows.any-gone SetUpOutcome′.mir)) ∷ (7, (Rows.any-gone y1)) ∷
-    (8, (Rows.any-gone y3)) ∷ (9, r7) ∷ []
+t0 = (0, r16) ∷ (1, Rows.whole (Declared.row Session.the-type)) ∷ (2, r1) ∷ (3, r6) ∷ (4, r13) ∷ (5, r18) ∷ (6, r15) ∷ (7, r5) ∷ (8, r12) ∷ (9, r7) ∷ []
+
+abbrev t4 : List.List Row.Entry
+t4 = (0, r16) ∷ (1, r17) ∷ (2, r0) ∷ (3, r6) ∷ (4, r13) ∷ (5, r14) ∷ (6, r15) ∷ (7, r2) ∷ (8, r12) ∷ (9, r7) ∷ []
+
+abbrev t7 : List.List Row.Entry
+t7 = (0, r16) ∷ (1, r17) ∷ (2, r0) ∷ (3, r4) ∷ (4, r13) ∷ (5, r14) ∷ (6, r11) ∷ (7, r3) ∷ (8, r12) ∷ (9, r10) ∷ []
+
+abbrev t10 : List.List Row.Entry
+t10 = (0, r16) ∷ (1, r17) ∷ (2, r1) ∷ (3, r4) ∷ (4, r19) ∷ (5, r18) ∷ (6, r11) ∷ (7, r5) ∷ (8, r12) ∷ (9, r10) ∷ []
 
 abbrev on : Nat.ℕ → Row.Row → Row.Cx → Row.Cx
 on n r Γ = record { locals = Row.setRow n (n, r) (Γ .locals); slots = Γ .slots }
@@ -196,7 +216,7 @@ abbrev T3 : Row.Cx
 T3 = on 1 r17 T2
 
 abbrev T5 : Row.Cx
-T5 = on 7 r2 (on 2 (Rows.mref-owed (Array.Array L.u64 928) y0 0 2 Row.off) T3)
+T5 = record { locals = t4; slots = [] }
 
 abbrev T7 : Row.Cx
 T7 = on 8 r8 (on 3 r4 T5)
@@ -205,7 +225,7 @@ abbrev T8 : Row.Cx
 T8 = on 9 r9 (on 3 r4 T5)
 
 abbrev T10 : Row.Cx
-T10 = on 9 r10 (on 7 r3 (on 6 r11 T8))
+T10 = record { locals = t7; slots = [] }
 
 abbrev T11 : Row.Cx
 T11 = on 4 r19 T10
@@ -214,13 +234,13 @@ abbrev T12 : Row.Cx
 T12 = on 5 r18 T11
 
 abbrev T14 : Row.Cx
-T14 = on 9 r10 (on 6 r11 (on 3 r4 (on 0 r16 T1)))
+T14 = record { locals = t10; slots = [] }
 
 abbrev T17 : Row.Cx
 T17 = on 9 r7 (on 3 r6 T14)
 
 abbrev T19 : Row.Cx
-T19 = on 6 r11 T1
+T19 = on 0 (Rows.whole (Declared.row Replied.the-type)) T17
 
 abbrev O0 : Typed.Outs
 O0 = record { next = Option.none; exits = []; returns = Option.some T1 }
@@ -310,27 +330,24 @@ module _ (cl : Claims) where
       abbrev G0 : Row.Cx
       G0 = lives z0 T0
 
-      abbrev G1 : Row.Cx
-      G1 = lives z0 T1
-
       abbrev G10 : Row.Cx
       G10 = lives (Row.off ∷ Row.off ∷ Row.alive ∷ Row.alive ∷ []) (on 3 (Relend.mslice-owed S.row y2 1 3 l1) (on 2 (Rows.mref-owed (Array.Array L.u64 928) y0 0 2 l0) T10))
 
       abbrev Δ0 : Typed.Outs
-      Δ0 = record { next = Option.none; exits = []; returns = Option.some G1 }
+      Δ0 = record { next = Option.none; exits = []; returns = Option.some (lives z0 T1) }
 
       module _ {M : Type 1} (U : URA.URA M) (H : Wp.Heap U) (A : Atoms.Atoms U) (W : Kit.Given U H A) (C : Wp.Tables U H) (known : Knowns U H A W C) (bs : List.List Nat.ℕ) (bd :
           Lifetimes.AllOutlive 2 (Kinds.osR r) κs) where
         abbrev E : Wp.Env U H
         E = Frame.EnvOf U H (Kinds.tyR r ∷ (Enter.tysP ps xs)) bs
 
-        pre : {Γ Γ₁ : Row.Cx} {b : Y.Body} {Δ : Typed.Outs} {φ : Typed.Tf Γ Γ₁} {Φ : Typed.TF Γ₁ Δ} → Typed.Ghost U H A E Γ Γ₁ φ → Typed.Typed U H A C E Γ₁ b Δ Φ → Typed.Typed U H A C E Γ b
+        pre : {Γ Γ₁ : Row.Cx} {b : Y.Body} {Δ : Typed.Outs} {Φ : Typed.TF Γ₁ Δ} (φ : Typed.Tf Γ Γ₁) → Typed.Ghost U H A E Γ Γ₁ φ → Typed.Typed U H A C E Γ₁ b Δ Φ → Typed.Typed U H A C E Γ b
             Δ (λ Ψ. φ (Φ Ψ))
-        pre = Typed.g-pre U H A W C E _ _ _ _ _ _
+        pre φ = Typed.g-pre U H A W C E _ _ _ _ φ _
 
-        seq : {Γ Γ₁ : Row.Cx} {a b : Y.Body} {Δ : Typed.Outs} {φ : Typed.Tf Γ Γ₁} {Φ : Typed.TF Γ₁ Δ} → Typed.Stmt U H A C E Γ a Γ₁ φ → Typed.Typed U H A C E Γ₁ b Δ Φ → Typed.Typed U H A C E
+        seq : {Γ Γ₁ : Row.Cx} {a b : Y.Body} {Δ : Typed.Outs} {Φ : Typed.TF Γ₁ Δ} (φ : Typed.Tf Γ Γ₁) → Typed.Stmt U H A C E Γ a Γ₁ φ → Typed.Typed U H A C E Γ₁ b Δ Φ → Typed.Typed U H A C E
             Γ (Y.seq a b) Δ (λ Ψ. φ (Φ Ψ))
-        seq = Typed.s-seq U H A W C E _ _ _ _ _ _ _
+        seq φ = Typed.s-seq U H A W C E _ _ _ _ _ φ _
 
         as-is : (r : Row.Row) → Reads'.As U H A r r (λ x. x)
         as-is = Reads'.as-is U H A
@@ -338,28 +355,31 @@ module _ (cl : Claims) where
         gone : (τ : Y.Ty) → Reads'.ToRoom U H A (Rows.any-gone τ) τ
         gone = Reads'.room-gone U H A
 
-        d1 : Typed.Typed U H A C E (on 6 r11 G1) b6 Δ0 at1
-        d1 = pre (Scalar.g-room U H A W E _ 6 SetUpOutcome′.mir (Local.room-whole U H A W (Declared.row SetUpOutcome.the-type) SetUpOutcome′.mir refl)) (Typed.t-return U H A W C E Δ0 tt)
+        d1 : Typed.Typed U H A C E (lives z0 T19) b6 Δ0 at1
+        d1 = pre (Typed.pass T19 T1 s18) (Scalar.g-room U H A W E _ 6 SetUpOutcome′.mir (Local.room-whole U H A W (Declared.row SetUpOutcome.the-type) SetUpOutcome′.mir refl))
+            (Typed.t-return U H A W C E Δ0 tt)
 
         d9 : Typed.Typed U H A C E (on 4 r19 G10) b7 Δ0 at9
-        d9 = pre (Scalar.g-room U H A W E _ 5 Cache′.mir (Local.room-whole U H A W (Declared.row Cache.the-type) Cache′.mir refl)) (pre (Lifetime.g-end U H A W E _ 2 refl) (pre
-            (Reborrow.g-back-mref U H A W E _ 7 2 0 2 (Array.Array L.u64 928) y0 y1 l0 (λ x. x) (λ x. x) (as-is r3) (as-is (Rows.mref-owed (Array.Array L.u64 928) y0 0 2 l0)) refl refl) (pre
-            (Lifetime.g-forget U H A W E _ 2 Row.dead refl) (pre (Lifetime.g-end U H A W E _ 3 refl) (pre (Relend.g-back-sl U H A W E S.row _ 9 3 1 3 y2 y3 l1 (λ x. x) (λ x. x) (as-is r10)
-            (as-is (Relend.mslice-owed S.row y2 1 3 l1)) refl refl) (pre (Lifetime.g-forget U H A W E _ 3 Row.dead refl) (seq (Plain.t-call-plain U H A W C 0 ps·1 r·1 (cl .2) (cl .3)
-            "replies::set_up_done" (known .1) E (λ pos β. β) _ (record { pos = 6; st = []; d = 0; at = λ x. x }, tt) 0 [] (Call.sub-id U H A W _)
+        d9 = pre (Typed.pass T11 T12 s10) (Scalar.g-room U H A W E _ 5 Cache′.mir (Local.room-whole U H A W (Declared.row Cache.the-type) Cache′.mir refl)) (pre (λ Ψ. Ψ) (Lifetime.g-end U H
+            A W E _ 2 refl) (pre (Typed.ask s12) (Reborrow.g-back-mref U H A W E _ 7 2 0 2 (Array.Array L.u64 928) y0 y1 l0 (λ x. x) (λ x. x) (as-is r3) (as-is (Rows.mref-owed (Array.Array
+            L.u64 928) y0 0 2 l0)) refl refl) (pre (λ Ψ. Ψ) (Lifetime.g-forget U H A W E _ 2 Row.dead refl) (pre (λ Ψ. Ψ) (Lifetime.g-end U H A W E _ 3 refl) (pre (Typed.both s15)
+            (Relend.g-back-sl U H A W E S.row _ 9 3 1 3 y2 y3 l1 (λ x. x) (λ x. x) (as-is r10) (as-is (Relend.mslice-owed S.row y2 1 3 l1)) refl refl) (pre (λ Ψ. Ψ) (Lifetime.g-forget U H A
+            W E _ 3 Row.dead refl) (seq (Typed.both s17) (Plain.t-call-plain U H A W C 0 ps·1 r·1 (cl .2) (cl .3) "replies::set_up_done" (known .1) E (λ pos β. β) _
+            (record { pos = 6; st = []; d = 0; at = λ x. x }, tt) 0 [] (Call.sub-id U H A W _)
             ((Yields.yields-copy U H A W (λ ρ. Unit) (Declared.row SetUpOutcome.the-type) refl (Copies.cStruct SetUpOutcome.the-type SetUpOutcome′.the-laws SetUpOutcome′.the-copy .copy U H A W) r11 (λ x. x) (λ x. x) (λ ρ told. Local.mem-whole U H A W (Declared.row SetUpOutcome.the-type) ρ) λ ρ told. Local.whole-mem U H A W (Declared.row SetUpOutcome.the-type) ρ, refl), tt)
             (gone Replied′.mir) tt refl) d1)))))))
 
         d10 : Typed.Typed U H A C E G10 b7 Δ0 at10
-        d10 = pre (Scalar.g-room U H A W E _ 4 SetUp′.mir (Local.room-whole U H A W (Declared.row SetUp.the-type) SetUp′.mir refl)) d9
+        d10 = pre (Typed.pass T10 T11 s9) (Scalar.g-room U H A W E _ 4 SetUp′.mir (Local.room-whole U H A W (Declared.row SetUp.the-type) SetUp′.mir refl)) d9
 
         d18 : Typed.Typed U H A C E (lives z0 T2) b11 Δ0 at18
-        d18 = pre (Scalar.g-room U H A W E _ 1 Session′.mir (Local.room-whole U H A W (Declared.row Session.the-type) Session′.mir refl)) (pre (Lifetime.g-begin U H A W E _ 2
-            (tt, (tt, (tt, (tt, (tt, (tt, (tt, (tt, (tt, (tt, tt))))))))))) (seq (Reborrow.t-mref-relend U H A W E C _ 2 7 0 2 (Array.Array L.u64 928) y4 y0 y1 l0 (λ x. x) (as-is r1) (gone
-            y1) refl tt refl refl λ b o. tt) (pre (Lifetime.g-begin U H A W E _ 3 (tt, (tt, ((tt, tt), (tt, (tt, (tt, (tt, (tt, (tt, (tt, tt))))))))))) (seq (Relend.t-sl-relend U H A W E
-            S.row C _ 3 8 1 3 y2 y3 l1 0 (λ x. x) (as-is r6) (gone y3) refl tt refl refl refl λ b o. tt) (seq (Relend.t-sl-aggregate U H A W E S.row C (Relend.asMut S.row) _ 8 9 3 y3 y3 (λ
-            x. x) (Scalar.oFld 3 (Y.field 1 ∷ []) (Y.tyInt Y.w64) 8 λ v. Shared.lenV (v .0)) (as-is r8) (gone (L.sl y3)) (Relend.reads-owed-len U H A W S.row y2 1 3 l1 8 refl, refl) refl
-            refl λ b o k. tt) (pre (Signed.g-struct-told U H A W E SetUp.the-type SetUp′.the-laws _ 4 (λ x. x) (as-is r13)) (seq (Plain.t-call-plain U H A W C 2 ps·0 r·0 (cl .0) (cl .1)
+        d18 = pre (Typed.pass T2 T3 s1) (Scalar.g-room U H A W E _ 1 Session′.mir (Local.room-whole U H A W (Declared.row Session.the-type) Session′.mir refl)) (pre (λ Ψ. Ψ)
+            (Lifetime.g-begin U H A W E _ 2 (tt, (tt, (tt, (tt, (tt, (tt, (tt, (tt, (tt, (tt, tt))))))))))) (seq (Typed.give s3) (Reborrow.t-mref-relend U H A W E C _ 2 7 0 2 (Array.Array
+            L.u64 928) y4 y0 y1 l0 (λ x. x) (as-is r1) (gone y1) refl tt refl refl λ b o. tt) (pre (λ Ψ. Ψ) (Lifetime.g-begin U H A W E _ 3
+            (tt, (tt, ((tt, tt), (tt, (tt, (tt, (tt, (tt, (tt, (tt, tt))))))))))) (seq (Typed.give s5) (Relend.t-sl-relend U H A W E S.row C _ 3 8 1 3 y2 y3 l1 0 (λ x. x) (as-is r6) (gone
+            y3) refl tt refl refl refl λ b o. tt) (seq (Typed.ask s6) (Relend.t-sl-aggregate U H A W E S.row C (Relend.asMut S.row) _ 8 9 3 y3 y3 (λ x. x) (Scalar.oFld 3 (Y.field 1 ∷ [])
+            (Y.tyInt Y.w64) 8 λ v. Shared.lenV (v .0)) (as-is r8) (gone (L.sl y3)) (Relend.reads-owed-len U H A W S.row y2 1 3 l1 8 refl, refl) refl refl λ b o k. tt) (pre (Typed.give s7)
+            (Signed.g-struct-told U H A W E SetUp.the-type SetUp′.the-laws _ 4 (λ x. x) (as-is r13)) (seq (Typed.both s8) (Plain.t-call-plain U H A W C 2 ps·0 r·0 (cl .0) (cl .1)
             "datasample_cache::set_up" (known .0) E (λ pos β. β) _
             (record { pos = 5; st = []; d = 0; at = λ x. x }, (record { pos = 7; ty = y1; ref = λ x. x }, (record { pos = 9; ty = y3; ref = λ x. x }, (Num.vFld 4 (Y.field 0 ∷ []) 0 λ x. SetUp.struct .as-values x .0, (Num.vFld 4 (Y.field 1 ∷ []) 4 λ x. Val.ofZ Y.w32 (SetUp.struct .as-values x .1 .0), (Num.vFld 4 (Y.field 2 ∷ []) 8 λ x. SetUp.struct .as-values x .1 .1 .0, tt))))))
             6 (2 ∷ 3 ∷ []) (Call.sub-id U H A W _)
@@ -367,9 +387,9 @@ module _ (cl : Claims) where
             (gone SetUpOutcome′.mir) (tt, (tt, tt)) refl) d10)))))))
 
         d19 : Typed.Typed U H A C E G0 b12 Δ0 at19
-        d19 = seq (WayStmt.t-way-copy-out U H A W E C (Declared.row Cache.the-type) refl (Copies.cStruct Cache.the-type Cache′.the-laws Cache′.the-copy .copy U H A W) (λ ρ. Unit) _ (Row.out
-            1 (G0 .locals)) (λ u. Row.drop 1 (G0 .locals) u) (G0 .slots) 1 (λ t. Y.field 0 ∷ t) Cache′.mir Cache′.mir 5 r14 (λ x. x) (λ u. At.getAt (Session.the-type .parts) 0
-            (Session.struct .as-values (u .1 .0))) (λ u. (Row.rd 0 1 bs, Nat._+_ 0 0)) (λ T′. record
+        d19 = seq (Typed.both s0) (WayStmt.t-way-copy-out U H A W E C (Declared.row Cache.the-type) refl (Copies.cStruct Cache.the-type Cache′.the-laws Cache′.the-copy .copy U H A W) (λ ρ.
+            Unit) _ (Row.out 1 (G0 .locals)) (λ u. Row.drop 1 (G0 .locals) u) (G0 .slots) 1 (λ t. Y.field 0 ∷ t) Cache′.mir Cache′.mir 5 r14 (λ x. x) (λ u. At.getAt (Session.the-type .parts)
+            0 (Session.struct .as-values (u .1 .0))) (λ u. (Row.rd 0 1 bs, Nat._+_ 0 0)) (λ T′. record
             { locals = Row.setRow 1 (1, Rows.whole (Declared.row Session.the-type)) T′; slots = G0 .slots }) (λ u T′ m′. Row.set 1 (1, Rows.whole (Declared.row Session.the-type)) (u .1 .0)
             T′ m′) (λ u. Unit) (λ x. Unit) (Own.told-none U H A (G0 .slots)) (DerefMove.learns-nothing U H A (Declared.row Cache.the-type)) (λ ρ told u asked. Way'.w-partˢ U H A W E
             (Declared.row Session.the-type) (Declared.row Cache.the-type) Session′.mir Cache′.mir 0 0 (u .1 .0) (At.getAt (Session.the-type .parts) 0 (Session.struct .as-values (u .1 .0)))

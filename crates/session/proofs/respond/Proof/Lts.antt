@@ -114,6 +114,9 @@ r2 = Rows.mref-owed (Array.Array L.u8 66048) y1 5 12 Row.off
 abbrev r3 : Row.Row
 r3 = Rows.mref-owed (Array.Array L.u64 6912) y0 4 9 Row.off
 
+abbrev r4 : Row.Row
+r4 = Rows.mref-owed (Array.Array L.u64 928) y2 0 6 Row.off
+
 abbrev r5 : Row.Row
 r5 = Rows.mref-owed (Array.Array L.u64 512) y3 3 8 Row.off
 
@@ -270,8 +273,32 @@ t0 = (0, r34) ∷ (1, r32) ∷ (2, r8) ∷ (3, r25) ∷ (4, r24) ∷ (5, r9) ∷
 abbrev t1 : List.List Row.Entry
 t1 = (16, Rows.any-gone y4) ∷ []
 
+abbrev t4 : List.List Row.Entry
+t4 = (0, r34) ∷ (1, r32) ∷ (2, r4) ∷ (3, r18) ∷ (4, r24) ∷ (5, r9) ∷ (6, r6) ∷ (7, r7) ∷ (8, r35) ∷ (9, r14) ∷ (10, r27) ∷ (11, r26) ∷ (12, r22) ∷ (13, r19) ∷ (14, r23) ∷ (15, r20) ∷ []
+
+abbrev t6 : List.List Row.Entry
+t6 = (0, r34) ∷ (1, r32) ∷ (2, r4) ∷ (3, r18) ∷ (4, r24) ∷ (5, r5) ∷ (6, r6) ∷ (7, r7) ∷ (8, r35) ∷ (9, r14) ∷ (10, r30) ∷ (11, r28) ∷ (12, r15) ∷ (13, r19) ∷ (14, r23) ∷ (15, r20) ∷ []
+
+abbrev t8 : List.List Row.Entry
+t8 = (0, r34) ∷ (1, r32) ∷ (2, r4) ∷ (3, r18) ∷ (4, r24) ∷ (5, r5) ∷ (6, r3) ∷ (7, r7) ∷ (8, r33) ∷ (9, r16) ∷ (10, r30) ∷ (11, r29) ∷ (12, r17) ∷ (13, r12) ∷ (14, r23) ∷ (15, r20) ∷ []
+
+abbrev t11 : List.List Row.Entry
+t11 = (0, r34) ∷ (1, r36) ∷ (2, r8) ∷ (3, r25) ∷ (4, r24) ∷ (5, r5) ∷ (6, r3) ∷ (7, r7) ∷ (8, r33) ∷ (9, r21) ∷ (10, r30) ∷ (11, r26) ∷ (12, r17) ∷ (13, r12) ∷ (14, r23) ∷ (15, r20) ∷ []
+
+abbrev t14 : List.List Row.Entry
+t14 = (0, r34) ∷ (1, r36) ∷ (2, r8) ∷ (3, r25) ∷ (4, r24) ∷ (5, r1) ∷ (6, r6) ∷ (7, r7) ∷ (8, r33) ∷ (9, r21) ∷ (10, r30) ∷ (11, r26) ∷ (12, r22) ∷ (13, r19) ∷ (14, r13) ∷ (15, r20) ∷ []
+
+abbrev t16 : List.List Row.Entry
+t16 = (0, r34) ∷ (1, r36) ∷ (2, r8) ∷ (3, r25) ∷ (4, r24) ∷ (5, r1) ∷ (6, r0) ∷ (7, r2) ∷ (8, r33) ∷ (9, r21) ∷ (10, r30) ∷ (11, r26) ∷ (12, r22) ∷ (13, r19) ∷ (14, r13) ∷ (15, r10) ∷ []
+
+abbrev t17 : List.List Row.Entry
+t17 = (16, Rows.mref (Array.Array L.u8 66048) y4 12) ∷ []
+
 abbrev t19 : List.List Row.Entry
 t19 = (16, Rows.mleft (Array.Array L.u8 66048) y4) ∷ []
+
+abbrev t21 : List.List Row.Entry
+t21 = (0, r31) ∷ (1, r36) ∷ (2, r8) ∷ (3, r25) ∷ (4, r24) ∷ (5, r1) ∷ (6, r0) ∷ (7, r2) ∷ (8, r33) ∷ (9, r21) ∷ (10, r30) ∷ (11, r26) ∷ (12, r22) ∷ (13, r19) ∷ (14, r23) ∷ (15, r20) ∷ []
 
 abbrev on : Nat.ℕ → Row.Row → Row.Cx → Row.Cx
 on n r Γ = record { locals = Row.setRow n (n, r) (Γ .locals); slots = Γ .slots }
@@ -289,31 +316,31 @@ abbrev T1 : Row.Cx
 T1 = on 1 r36 (on 0 r31 T0)
 
 abbrev T4 : Row.Cx
-T4 = on 9 r14 (on 2 (Rows.mref-owed (Array.Array L.u64 928) y2 0 6 Row.off) T0)
+T4 = on 9 r14 (on 2 r4 T0)
 
 abbrev T6 : Row.Cx
-T6 = on 10 r27 (on 3 r18 T4)
+T6 = record { locals = List._++_ t4 t1; slots = [] }
 
 abbrev T7 : Row.Cx
-T7 = on 11 r28 (on 3 r18 T4)
+T7 = on 11 r28 (on 10 r30 T6)
 
 abbrev T9 : Row.Cx
-T9 = on 12 r15 (on 5 r5 T7)
+T9 = record { locals = List._++_ t6 t1; slots = [] }
 
 abbrev T11 : Row.Cx
 T11 = on 13 r11 (on 6 r3 T9)
 
 abbrev T12 : Row.Cx
-T12 = on 13 r12 (on 12 r17 (on 11 r29 (on 9 r16 (on 8 r33 (on 6 r3 T9)))))
+T12 = record { locals = List._++_ t8 t1; slots = [] }
 
 abbrev T13 : Row.Cx
-T13 = on 13 r12 (on 12 r17 (on 11 r29 (on 9 r16 (on 8 r33 (on 6 r3 (on 5 r5 (on 1 r36 T7)))))))
+T13 = on 1 r36 T12
 
 abbrev T15 : Row.Cx
-T15 = on 13 r12 (on 12 r17 (on 11 r29 (on 8 r33 (on 6 r3 (on 5 r5 (on 3 r18 (on 1 r36 T0)))))))
+T15 = on 9 r21 (on 2 r8 T13)
 
 abbrev T18 : Row.Cx
-T18 = on 11 r26 (on 3 r25 T15)
+T18 = record { locals = List._++_ t11 t1; slots = [] }
 
 abbrev T21 : Row.Cx
 T21 = on 12 r22 (on 5 r9 T18)
@@ -322,13 +349,13 @@ abbrev T24 : Row.Cx
 T24 = on 8 r33 (on 1 r36 T0)
 
 abbrev T27 : Row.Cx
-T27 = on 14 r13 (on 5 r1 T24)
+T27 = record { locals = List._++_ t14 t1; slots = [] }
 
 abbrev T29 : Row.Cx
 T29 = on 15 r10 (on 6 r0 T27)
 
 abbrev T31 : Row.Cx
-T31 = on 16 (Rows.mref (Array.Array L.u8 66048) y4 12) (on 7 r2 T29)
+T31 = record { locals = List._++_ t16 t17; slots = [] }
 
 abbrev T32 : Row.Cx
 T32 = on 16 (Rows.mleft (Array.Array L.u8 66048) y4) (on 0 r31 T31)
@@ -337,10 +364,10 @@ abbrev T33 : Row.Cx
 T33 = on 14 r23 T32
 
 abbrev T34 : Row.Cx
-T34 = on 15 r20 T33
+T34 = record { locals = List._++_ t21 t19; slots = [] }
 
 abbrev T35 : Row.Cx
-T35 = on 16 (Rows.mleft (Array.Array L.u8 66048) y4) (on 7 r2 (on 6 r0 (on 5 r1 T1)))
+T35 = on 8 r35 T34
 
 abbrev T37 : Row.Cx
 T37 = on 5 r9 T35
@@ -479,6 +506,15 @@ module _ (cl : Claims) where
       g3 = (0, r34) ∷ (1, r32) ∷ (2, Rows.mref-owed (Array.Array L.u64 928) y2 0 6 l0) ∷ (3, r25) ∷ (4, r24) ∷ (5, r9) ∷ (6, r6) ∷ (7, r7) ∷ (8, r35) ∷ (9, r14) ∷ (10, r30) ∷ (11, r26) ∷
           (12, r22) ∷ (13, r19) ∷ (14, r23) ∷ (15, r20) ∷ []
 
+      abbrev g8 : List.List Row.Entry
+      g8 = (0, r34) ∷ (1, r32) ∷ (2, Rows.mref-owed (Array.Array L.u64 928) y2 0 6 l0) ∷ (3, Relend.mslice-owed S.row y11 1 7 l1) ∷ (4, r24) ∷
+          (5, Rows.mref-owed (Array.Array L.u64 512) y3 3 8 l2) ∷ (6, Rows.mref-owed (Array.Array L.u64 6912) y0 4 9 l3) ∷ (7, r7) ∷ (8, r33) ∷ (9, r16) ∷ (10, r30) ∷ (11, r29) ∷ (12, r17) ∷
+          (13, r12) ∷ (14, r23) ∷ (15, r20) ∷ []
+
+      abbrev g18 : List.List Row.Entry
+      g18 = (0, r31) ∷ (1, r36) ∷ (2, r8) ∷ (3, r25) ∷ (4, r24) ∷ (5, Reshare.mref-owedS (Array.Array L.u64 512) y3 3 10 l2) ∷ (6, Reshare.mref-owedS (Array.Array L.u64 6912) y0 4 11 l3) ∷
+          (7, Rows.mref-owed (Array.Array L.u8 66048) y1 5 12 l4) ∷ (8, r33) ∷ (9, r21) ∷ (10, r30) ∷ (11, r26) ∷ (12, r22) ∷ (13, r19) ∷ (14, r13) ∷ (15, r10) ∷ []
+
       abbrev g23 : List.List Row.Entry
       g23 = (0, r31) ∷ (1, r36) ∷ (2, r8) ∷ (3, r25) ∷ (4, r24) ∷ (5, r9) ∷ (6, Reshare.mref-owedS (Array.Array L.u64 6912) y0 4 11 l3) ∷
           (7, Rows.mref-owed (Array.Array L.u8 66048) y1 5 12 l4) ∷ (8, r35) ∷ (9, r21) ∷ (10, r30) ∷ (11, r26) ∷ (12, r22) ∷ (13, r19) ∷ (14, r23) ∷ (15, r20) ∷ []
@@ -486,14 +522,9 @@ module _ (cl : Claims) where
       abbrev G0 : Row.Cx
       G0 = lives z0 T0
 
-      abbrev G4 : Row.Cx
-      G4 = record
-          { locals = List._++_ g3 t1; slots = Row.off ∷ l1 ∷ Row.lease (κs .1 .1 .0) (qs .1 .1 .0) ∷ l2 ∷ l3 ∷ l4 ∷ Row.alive ∷ Row.off ∷ Row.off ∷ Row.off ∷ Row.off ∷ Row.off ∷ Row.off ∷ [] }
-
       abbrev G12 : Row.Cx
-      G12 = lives (Row.off ∷ Row.off ∷ Row.lease (κs .1 .1 .0) (qs .1 .1 .0) ∷ Row.off ∷ Row.off ∷ l4 ∷ Row.alive ∷ Row.alive ∷ Row.alive ∷ Row.alive ∷ Row.off ∷ Row.off ∷ Row.off ∷ []) (on
-          13 r12 (on 12 r17 (on 11 r29 (on 9 r16 (on 8 r33 (on 6 (Rows.mref-owed (Array.Array L.u64 6912) y0 4 9 l3) (on 5 (Rows.mref-owed (Array.Array L.u64 512) y3 3 8 l2) (on 3
-          (Relend.mslice-owed S.row y11 1 7 l1) G4))))))))
+      G12 = record
+          { locals = List._++_ g8 t1; slots = (Row.off ∷ Row.off ∷ Row.lease (κs .1 .1 .0) (qs .1 .1 .0) ∷ Row.off ∷ Row.off ∷ l4 ∷ Row.alive ∷ Row.alive ∷ Row.alive ∷ Row.alive ∷ Row.off ∷ Row.off ∷ Row.off ∷ []) }
 
       abbrev Δ0 : Typed.Outs
       Δ0 = record { next = Option.none; exits = []; returns = Option.some (lives z0 T1) }
@@ -503,13 +534,13 @@ module _ (cl : Claims) where
         abbrev E : Wp.Env U H
         E = Frame.EnvOf U H (Kinds.tyR r ∷ (Enter.tysP ps xs)) bs
 
-        pre : {Γ Γ₁ : Row.Cx} {b : Y.Body} {Δ : Typed.Outs} {φ : Typed.Tf Γ Γ₁} {Φ : Typed.TF Γ₁ Δ} → Typed.Ghost U H A E Γ Γ₁ φ → Typed.Typed U H A C E Γ₁ b Δ Φ → Typed.Typed U H A C E Γ b
+        pre : {Γ Γ₁ : Row.Cx} {b : Y.Body} {Δ : Typed.Outs} {Φ : Typed.TF Γ₁ Δ} (φ : Typed.Tf Γ Γ₁) → Typed.Ghost U H A E Γ Γ₁ φ → Typed.Typed U H A C E Γ₁ b Δ Φ → Typed.Typed U H A C E Γ b
             Δ (λ Ψ. φ (Φ Ψ))
-        pre = Typed.g-pre U H A W C E _ _ _ _ _ _
+        pre φ = Typed.g-pre U H A W C E _ _ _ _ φ _
 
-        seq : {Γ Γ₁ : Row.Cx} {a b : Y.Body} {Δ : Typed.Outs} {φ : Typed.Tf Γ Γ₁} {Φ : Typed.TF Γ₁ Δ} → Typed.Stmt U H A C E Γ a Γ₁ φ → Typed.Typed U H A C E Γ₁ b Δ Φ → Typed.Typed U H A C E
+        seq : {Γ Γ₁ : Row.Cx} {a b : Y.Body} {Δ : Typed.Outs} {Φ : Typed.TF Γ₁ Δ} (φ : Typed.Tf Γ Γ₁) → Typed.Stmt U H A C E Γ a Γ₁ φ → Typed.Typed U H A C E Γ₁ b Δ Φ → Typed.Typed U H A C E
             Γ (Y.seq a b) Δ (λ Ψ. φ (Φ Ψ))
-        seq = Typed.s-seq U H A W C E _ _ _ _ _ _ _
+        seq φ = Typed.s-seq U H A W C E _ _ _ _ _ φ _
 
         begin : {Γ : Row.Cx} (α : Nat.ℕ) → Row.Fresh α (Γ .locals) → Typed.Ghost U H A E Γ (Lifetime.Begun Γ α) (Typed.pass Γ (Lifetime.Begun Γ α) (λ u. u))
         begin = Lifetime.g-begin U H A W E _
@@ -523,23 +554,26 @@ module _ (cl : Claims) where
         d7 : Typed.Typed U H A C E (record
             { locals = List._++_ g23 t19; slots = l0 ∷ l1 ∷ Row.lease (κs .1 .1 .0) (qs .1 .1 .0) ∷ l2 ∷ Row.off ∷ Row.off ∷ Row.off ∷ Row.off ∷ Row.off ∷ Row.off ∷ Row.dead ∷ Row.alive ∷ Row.alive ∷ [] })
             b10 Δ0 at7
-        d7 = pre (Lifetime.g-forget U H A W E _ 10 Row.dead refl) (pre (Lifetime.g-end U H A W E _ 11 refl) (pre (Reshare.g-back-mref-shr U H A W E _ 6 4 11 (Array.Array L.u64 6912) y0 l3 (λ
-            x. x) (as-is (Reshare.mref-owedS (Array.Array L.u64 6912) y0 4 11 l3)) refl refl) (pre (Lifetime.g-forget U H A W E _ 11 Row.dead refl) (pre (Lifetime.g-end U H A W E _ 12 refl)
-            (pre (Reborrow.g-back-mref U H A W E _ 16 7 5 12 (Array.Array L.u8 66048) y1 y4 l4 (λ x. x) (λ x. x) (as-is (Rows.mleft (Array.Array L.u8 66048) y4)) (as-is (Rows.mref-owed
-            (Array.Array L.u8 66048) y1 5 12 l4)) refl refl) (pre (Lifetime.g-forget U H A W E _ 12 Row.dead refl) (Typed.t-return U H A W C E Δ0 tt)))))))
+        d7 = pre (λ Ψ. Ψ) (Lifetime.g-forget U H A W E _ 10 Row.dead refl) (pre (λ Ψ. Ψ) (Lifetime.g-end U H A W E _ 11 refl) (pre (Typed.pass T37 T40 s38) (Reshare.g-back-mref-shr U H A W E
+            _ 6 4 11 (Array.Array L.u64 6912) y0 l3 (λ x. x) (as-is (Reshare.mref-owedS (Array.Array L.u64 6912) y0 4 11 l3)) refl refl) (pre (λ Ψ. Ψ) (Lifetime.g-forget U H A W E _ 11
+            Row.dead refl) (pre (λ Ψ. Ψ) (Lifetime.g-end U H A W E _ 12 refl) (pre (Typed.ask s41) (Reborrow.g-back-mref U H A W E _ 16 7 5 12 (Array.Array L.u8 66048) y1 y4 l4 (λ x. x) (λ
+            x. x) (as-is (Rows.mleft (Array.Array L.u8 66048) y4)) (as-is (Rows.mref-owed (Array.Array L.u8 66048) y1 5 12 l4)) refl refl) (pre (λ Ψ. Ψ) (Lifetime.g-forget U H A W E _ 12
+            Row.dead refl) (Typed.t-return U H A W C E Δ0 tt)))))))
 
-        d12 : Typed.Typed U H A C E (lives (l0 ∷ l1 ∷ Row.lease (κs .1 .1 .0) (qs .1 .1 .0) ∷ Row.off ∷ Row.off ∷ Row.off ∷ Row.off ∷ Row.off ∷ Row.off ∷ Row.off ∷ Row.alive ∷ Row.alive ∷
-            Row.alive ∷ []) (on 15 r10 (on 14 r13 (on 8 r33 (on 7 (Rows.mref-owed (Array.Array L.u8 66048) y1 5 12 l4) (on 6 (Reshare.mref-owedS (Array.Array L.u64 6912) y0 4 11 l3) (on 5
-            (Reshare.mref-owedS (Array.Array L.u64 512) y3 3 10 l2) T35))))))) b10 Δ0 at12
-        d12 = pre (Local.g-drop-sref U H A W E _ 14 10 (Array.Array L.u64 512) y9 (λ x. x) (as-is r13)) (pre (Local.g-drop-sref U H A W E _ 15 11 (Array.Array L.u64 6912) y6 (λ x. x) (as-is
-            r10)) (pre (Scalar.g-room U H A W E _ 8 Replied′.mir (Local.room-whole U H A W (Declared.row Replied.the-type) Replied′.mir refl)) (pre (Lifetime.g-end U H A W E _ 10 refl) (pre
-            (Reshare.g-back-mref-shr U H A W E _ 5 3 10 (Array.Array L.u64 512) y3 l2 (λ x. x) (as-is (Reshare.mref-owedS (Array.Array L.u64 512) y3 3 10 l2)) refl refl) d7))))
+        d12 : Typed.Typed U H A C E (record
+            { locals = List._++_ g18 t19; slots = (l0 ∷ l1 ∷ Row.lease (κs .1 .1 .0) (qs .1 .1 .0) ∷ Row.off ∷ Row.off ∷ Row.off ∷ Row.off ∷ Row.off ∷ Row.off ∷ Row.off ∷ Row.alive ∷ Row.alive ∷ Row.alive ∷ []) })
+            b10 Δ0 at12
+        d12 = pre (Typed.pass T32 T33 s31) (Local.g-drop-sref U H A W E _ 14 10 (Array.Array L.u64 512) y9 (λ x. x) (as-is r13)) (pre (Typed.pass T33 T34 s32) (Local.g-drop-sref U H A W E _
+            15 11 (Array.Array L.u64 6912) y6 (λ x. x) (as-is r10)) (pre (Typed.pass T34 T35 s33) (Scalar.g-room U H A W E _ 8 Replied′.mir (Local.room-whole U H A W (Declared.row
+            Replied.the-type) Replied′.mir refl)) (pre (λ Ψ. Ψ) (Lifetime.g-end U H A W E _ 10 refl) (pre (Typed.pass T35 T37 s35) (Reshare.g-back-mref-shr U H A W E _ 5 3 10 (Array.Array
+            L.u64 512) y3 l2 (λ x. x) (as-is (Reshare.mref-owedS (Array.Array L.u64 512) y3 3 10 l2)) refl refl) d7))))
 
         d20 : Typed.Typed U H A C E (life 9 Row.dead (on 8 r33 (on 1 r36 G0))) b14 Δ0 at20
-        d20 = pre (Lifetime.g-forget U H A W E _ 9 Row.dead refl) (pre (begin 10 _) (seq (Reshare.t-mref-reshare U H A W E C _ 5 14 3 10 (Array.Array L.u64 512) y16 y3 y9 l2 (λ x. x) (as-is
-            r9) (gone y9) refl tt refl refl λ b o. tt) (pre (begin 11 _) (seq (Reshare.t-mref-reshare U H A W E C _ 6 15 4 11 (Array.Array L.u64 6912) y13 y0 y6 l3 (λ x. x) (as-is r6) (gone
-            y6) refl tt refl refl λ b o. tt) (pre (begin 12 _) (seq (Reborrow.t-mref-relend U H A W E C _ 7 16 5 12 (Array.Array L.u8 66048) y14 y1 y4 l4 (λ x. x) (as-is r7) (gone y4) refl
-            tt refl refl λ b o. tt) (seq (Plain.t-call-plain U H A W C 3 ps·1 r·1 (cl .2) (cl .3) "session::printed" (known .1) E (λ pos β. β) _
+        d20 = pre (λ Ψ. Ψ) (Lifetime.g-forget U H A W E _ 9 Row.dead refl) (pre (λ Ψ. Ψ) (begin 10 _) (seq (Typed.give s25) (Reshare.t-mref-reshare U H A W E C _ 5 14 3 10 (Array.Array L.u64
+            512) y16 y3 y9 l2 (λ x. x) (as-is r9) (gone y9) refl tt refl refl λ b o. tt) (pre (λ Ψ. Ψ) (begin 11 _) (seq (Typed.give s27) (Reshare.t-mref-reshare U H A W E C _ 6 15 4 11
+            (Array.Array L.u64 6912) y13 y0 y6 l3 (λ x. x) (as-is r6) (gone y6) refl tt refl refl λ b o. tt) (pre (λ Ψ. Ψ) (begin 12 _) (seq (Typed.give s29) (Reborrow.t-mref-relend U H A W
+            E C _ 7 16 5 12 (Array.Array L.u8 66048) y14 y1 y4 l4 (λ x. x) (as-is r7) (gone y4) refl tt refl refl λ b o. tt) (seq (Typed.both s30) (Plain.t-call-plain U H A W C 3 ps·1 r·1
+            (cl .2) (cl .3) "session::printed" (known .1) E (λ pos β. β) _
             (record { pos = 8; st = []; d = 0; at = λ x. x }, (record { pos = 14; ty = y9; ref = λ x. x }, (record { pos = 15; ty = y6; ref = λ x. x }, (record { pos = 16; ty = y4; ref = λ x. x }, tt))))
             0 (10 ∷ 11 ∷ 12 ∷ []) (Call.sub-id U H A W _)
             ((Yields.yields-copy U H A W (λ ρ. Unit) (Declared.row Replied.the-type) refl (Copies.cStruct Replied.the-type Replied′.the-laws Replied′.the-copy .copy U H A W) r33 (λ x. x) (λ x. x) (λ ρ told. Local.mem-whole U H A W (Declared.row Replied.the-type) ρ) λ ρ told. Local.whole-mem U H A W (Declared.row Replied.the-type) ρ, refl), (ShrRef.spares-sref U H A W (Array.Array L.u64 512) y9 10, Reads.reads-sref U H A W (Array.Array L.u64 512) y9 10, refl, (ShrRef.spares-sref U H A W (Array.Array L.u64 6912) y6 11, Reads.reads-sref U H A W (Array.Array L.u64 6912) y6 11, refl, (as-is (Rows.mref (Array.Array L.u8 66048) y4 12), Reads.reads-mref U H A W (Array.Array L.u8 66048) y4 12, refl, tt))))
@@ -547,31 +581,35 @@ module _ (cl : Claims) where
 
         d28 : Typed.Typed U H A C E (lives (l0 ∷ Row.off ∷ Row.lease (κs .1 .1 .0) (qs .1 .1 .0) ∷ Row.off ∷ Row.off ∷ l4 ∷ Row.off ∷ Row.alive ∷ Row.alive ∷ Row.alive ∷ Row.off ∷ Row.off ∷
             Row.off ∷ []) (on 9 r21 (on 2 r8 (on 1 r36 G12)))) b14 Δ0 at28
-        d28 = pre (Lifetime.g-end U H A W E _ 7 refl) (pre (Relend.g-back-sl U H A W E S.row _ 11 3 1 7 y11 y12 l1 (λ x. x) (λ x. x) (as-is r29) (as-is (Relend.mslice-owed S.row y11 1 7 l1))
-            refl refl) (pre (Lifetime.g-forget U H A W E _ 7 Row.dead refl) (pre (Lifetime.g-end U H A W E _ 8 refl) (pre (Reborrow.g-back-mref U H A W E _ 12 5 3 8 (Array.Array L.u64 512)
-            y3 y8 l2 (λ x. x) (λ x. x) (as-is r17) (as-is (Rows.mref-owed (Array.Array L.u64 512) y3 3 8 l2)) refl refl) (pre (Lifetime.g-forget U H A W E _ 8 Row.dead refl) (pre
-            (Lifetime.g-end U H A W E _ 9 refl) (pre (Reborrow.g-back-mref U H A W E _ 13 6 4 9 (Array.Array L.u64 6912) y0 y5 l3 (λ x. x) (λ x. x) (as-is r12) (as-is (Rows.mref-owed
-            (Array.Array L.u64 6912) y0 4 9 l3)) refl refl) d20)))))))
+        d28 = pre (λ Ψ. Ψ) (Lifetime.g-end U H A W E _ 7 refl) (pre (Typed.both s16) (Relend.g-back-sl U H A W E S.row _ 11 3 1 7 y11 y12 l1 (λ x. x) (λ x. x) (as-is r29) (as-is
+            (Relend.mslice-owed S.row y11 1 7 l1)) refl refl) (pre (λ Ψ. Ψ) (Lifetime.g-forget U H A W E _ 7 Row.dead refl) (pre (λ Ψ. Ψ) (Lifetime.g-end U H A W E _ 8 refl) (pre (Typed.ask
+            s19) (Reborrow.g-back-mref U H A W E _ 12 5 3 8 (Array.Array L.u64 512) y3 y8 l2 (λ x. x) (λ x. x) (as-is r17) (as-is (Rows.mref-owed (Array.Array L.u64 512) y3 3 8 l2)) refl
+            refl) (pre (λ Ψ. Ψ) (Lifetime.g-forget U H A W E _ 8 Row.dead refl) (pre (λ Ψ. Ψ) (Lifetime.g-end U H A W E _ 9 refl) (pre (Typed.ask s22) (Reborrow.g-back-mref U H A W E _ 13 6
+            4 9 (Array.Array L.u64 6912) y0 y5 l3 (λ x. x) (λ x. x) (as-is r12) (as-is (Rows.mref-owed (Array.Array L.u64 6912) y0 4 9 l3)) refl refl) d20)))))))
 
         d32 : Typed.Typed U H A C E G12 b14 Δ0 at32
-        d32 = pre (Scalar.g-room U H A W E _ 1 Session′.mir (Local.room-whole U H A W (Declared.row Session.the-type) Session′.mir refl)) (pre (Lifetime.g-end U H A W E _ 6 refl) (pre
-            (Reborrow.g-back-mref U H A W E _ 9 2 0 6 (Array.Array L.u64 928) y2 y7 l0 (λ x. x) (λ x. x) (as-is r16) (as-is (Rows.mref-owed (Array.Array L.u64 928) y2 0 6 l0)) refl refl)
-            (pre (Lifetime.g-forget U H A W E _ 6 Row.dead refl) d28)))
+        d32 = pre (Typed.pass T12 T13 s11) (Scalar.g-room U H A W E _ 1 Session′.mir (Local.room-whole U H A W (Declared.row Session.the-type) Session′.mir refl)) (pre (λ Ψ. Ψ)
+            (Lifetime.g-end U H A W E _ 6 refl) (pre (Typed.ask s13) (Reborrow.g-back-mref U H A W E _ 9 2 0 6 (Array.Array L.u64 928) y2 y7 l0 (λ x. x) (λ x. x) (as-is r16) (as-is
+            (Rows.mref-owed (Array.Array L.u64 928) y2 0 6 l0)) refl refl) (pre (λ Ψ. Ψ) (Lifetime.g-forget U H A W E _ 6 Row.dead refl) d28)))
 
-        d40 : Typed.Typed U H A C E G4 b19 Δ0 at40
-        d40 = pre (begin 7 _) (seq (Relend.t-sl-relend U H A W E S.row C _ 3 10 1 7 y11 y12 l1 0 (λ x. x) (as-is r25) (gone y12) refl tt refl refl refl λ b o. tt) (seq (Relend.t-sl-aggregate
-            U H A W E S.row C (Relend.asMut S.row) _ 10 11 7 y12 y12 (λ x. x) (Scalar.oFld 3 (Y.field 1 ∷ []) (Y.tyInt Y.w64) 8 λ v. Shared.lenV (v .0)) (as-is r27) (gone (L.sl y12))
-            (Relend.reads-owed-len U H A W S.row y11 1 7 l1 8 refl, refl) refl refl λ b o k. tt) (pre (begin 8 _) (seq (Reborrow.t-mref-relend U H A W E C _ 5 12 3 8 (Array.Array L.u64 512)
-            y16 y3 y8 l2 (λ x. x) (as-is r9) (gone y8) refl tt refl refl λ b o. tt) (pre (begin 9 _) (seq (Reborrow.t-mref-relend U H A W E C _ 6 13 4 9 (Array.Array L.u64 6912) y13 y0 y5 l3
-            (λ x. x) (as-is r6) (gone y5) refl tt refl refl λ b o. tt) (seq (Plain.t-call-plain U H A W C 5 ps·0 r·0 (cl .0) (cl .1) "session::answer" (known .0) E (λ pos β. β) _
+        d40 : Typed.Typed U H A C E (record
+            { locals = List._++_ g3 t1; slots = Row.off ∷ l1 ∷ Row.lease (κs .1 .1 .0) (qs .1 .1 .0) ∷ l2 ∷ l3 ∷ l4 ∷ Row.alive ∷ Row.off ∷ Row.off ∷ Row.off ∷ Row.off ∷ Row.off ∷ Row.off ∷ [] })
+            b19 Δ0 at40
+        d40 = pre (λ Ψ. Ψ) (begin 7 _) (seq (Typed.give s4) (Relend.t-sl-relend U H A W E S.row C _ 3 10 1 7 y11 y12 l1 0 (λ x. x) (as-is r25) (gone y12) refl tt refl refl refl λ b o. tt)
+            (seq (Typed.ask s5) (Relend.t-sl-aggregate U H A W E S.row C (Relend.asMut S.row) _ 10 11 7 y12 y12 (λ x. x) (Scalar.oFld 3 (Y.field 1 ∷ []) (Y.tyInt Y.w64) 8 λ v. Shared.lenV (v
+            .0)) (as-is r27) (gone (L.sl y12)) (Relend.reads-owed-len U H A W S.row y11 1 7 l1 8 refl, refl) refl refl λ b o k. tt) (pre (λ Ψ. Ψ) (begin 8 _) (seq (Typed.give s7)
+            (Reborrow.t-mref-relend U H A W E C _ 5 12 3 8 (Array.Array L.u64 512) y16 y3 y8 l2 (λ x. x) (as-is r9) (gone y8) refl tt refl refl λ b o. tt) (pre (λ Ψ. Ψ) (begin 9 _) (seq
+            (Typed.give s9) (Reborrow.t-mref-relend U H A W E C _ 6 13 4 9 (Array.Array L.u64 6912) y13 y0 y5 l3 (λ x. x) (as-is r6) (gone y5) refl tt refl refl λ b o. tt) (seq (Typed.both
+            s10) (Plain.t-call-plain U H A W C 5 ps·0 r·0 (cl .0) (cl .1) "session::answer" (known .0) E (λ pos β. β) _
             (record { pos = 1; st = []; d = 0; at = λ x. x }, (record { pos = 9; ty = y7; ref = λ x. x }, (record { pos = 11; ty = y12; ref = λ x. x }, (record { pos = 4; ty = y10; ref = λ x. x }, (record { pos = 12; ty = y8; ref = λ x. x }, (record { pos = 13; ty = y5; ref = λ x. x }, tt))))))
             8 (6 ∷ 7 ∷ 2 ∷ 8 ∷ 9 ∷ []) (Call.sub-id U H A W _)
             ((Yields.yields-copy U H A W (λ ρ. Unit) (Declared.row Session.the-type) refl (Copies.cStruct Session.the-type Session′.the-laws Session′.the-copy .copy U H A W) r32 (λ x. x) (λ x. x) (λ ρ told. Local.mem-whole U H A W (Declared.row Session.the-type) ρ) λ ρ told. Local.whole-mem U H A W (Declared.row Session.the-type) ρ, refl), (as-is r14, Reads.reads-mref U H A W (Array.Array L.u64 928) y7 6, refl, (as-is r28, Mut.reads-mslice U H A W S.row y12 7, refl, (ShrSlice.spares-sslice U H A W L.u8 y10 2, Shared.reads-sslice U H A W L.u8 y10 2, refl, (as-is r15, Reads.reads-mref U H A W (Array.Array L.u64 512) y8 8, refl, (as-is r11, Reads.reads-mref U H A W (Array.Array L.u64 6912) y5 9, refl, tt))))))
             (gone Replied′.mir) (tt, (tt, (tt, (tt, (tt, tt))))) refl) d32)))))))
 
         d43 : Typed.Typed U H A C E G0 b20 Δ0 at43
-        d43 = pre (Know.g-shs-known U H A W (Referent.fInt Y.w8) E _ 4 2 y10 (Row.lease (κs .1 .1 .0) (qs .1 .1 .0)) 0 (λ x. x) record { fits = Dec'.lit< tt } (as-is r24) refl tt) (pre
-            (begin 6 _) (seq (Reborrow.t-mref-relend U H A W E C _ 2 9 0 6 (Array.Array L.u64 928) y15 y2 y7 l0 (λ x. x) (as-is r8) (gone y7) refl tt refl refl λ b o. tt) d40))
+        d43 = pre (Typed.give s0) (Know.g-shs-known U H A W (Referent.fInt Y.w8) E _ 4 2 y10 (Row.lease (κs .1 .1 .0) (qs .1 .1 .0)) 0 (λ x. x) record { fits = Dec'.lit< tt } (as-is r24)
+            refl tt) (pre (λ Ψ. Ψ) (begin 6 _) (seq (Typed.give s2) (Reborrow.t-mref-relend U H A W E C _ 2 9 0 6 (Array.Array L.u64 928) y15 y2 y7 l0 (λ x. x) (as-is r8) (gone y7) refl tt
+            refl refl λ b o. tt) d40))
 
         pub typed : Typed.Typed U H A C E (Function.Γin 6 ps r xs m κs qs) b20 (Function.Δret 6 ps r xs m κs qs) Φ
         typed = d43

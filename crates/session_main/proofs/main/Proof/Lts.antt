@@ -413,6 +413,30 @@ abbrev t2 : List.List Row.Entry
 t2 = (0, L.hunit) ∷ (1, r36) ∷ (2, r46) ∷ (3, r33) ∷ (4, r23) ∷ (5, r25) ∷ (6, r20) ∷ (7, r24) ∷ (8, r21) ∷ (9, r22) ∷ (10, r34) ∷ (11, L.g64) ∷ (12, r37) ∷ (13, L.gbool) ∷ (14, r10) ∷
     (15, r13) ∷ []
 
+abbrev t10 : List.List Row.Entry
+t10 = (0, L.gunit) ∷ (1, r27) ∷ (2, r46) ∷ (3, r43) ∷ (4, r44) ∷ (5, Rows'.whole (Array'.Array L.u8 2)) ∷ (6, r20) ∷ (7, r24) ∷ (8, r21) ∷ (9, r22) ∷ (10, r34) ∷ (11, L.g64) ∷ (12, r37) ∷
+    (13, L.gbool) ∷ (14, r10) ∷ (15, r13) ∷ []
+
+abbrev t16 : List.List Row.Entry
+t16 = (0, L.gunit) ∷ (1, r27) ∷ (2, r46) ∷ (3, r43) ∷ (4, r44) ∷ (5, r47) ∷ (6, r39) ∷ (7, r45) ∷ (8, Rows'.whole (Array'.Array L.u64 6912)) ∷ (9, r22) ∷ (10, r34) ∷ (11, L.g64) ∷ (12, r37)
+    ∷ (13, L.gbool) ∷ (14, r10) ∷ (15, r13) ∷ []
+
+abbrev t21 : List.List Row.Entry
+t21 = (0, L.gunit) ∷ (1, r27) ∷ (2, r46) ∷ (3, r43) ∷ (4, r44) ∷ (5, r47) ∷ (6, r39) ∷ (7, r45) ∷ (8, r40) ∷ (9, r41) ∷ (10, r26) ∷ (11, L.h64) ∷ (12, r37) ∷ (13, L.gbool) ∷ (14, r10) ∷
+    (15, r13) ∷ []
+
+abbrev t26 : List.List Row.Entry
+t26 = (0, L.gunit) ∷ (1, r36) ∷ (2, r46) ∷ (3, r33) ∷ (4, r23) ∷ (5, r47) ∷ (6, r39) ∷ (7, r45) ∷ (8, r40) ∷ (9, r41) ∷ (10, r26) ∷ (11, L.h64) ∷ (12, r37) ∷ (13, L.hbool) ∷ (14, r10) ∷
+    (15, r13) ∷ []
+
+abbrev t30 : List.List Row.Entry
+t30 = (0, L.gunit) ∷ (1, r36) ∷ (2, r46) ∷ (3, r33) ∷ (4, r23) ∷ (5, r25) ∷ (6, r20) ∷ (7, r24) ∷ (8, r21) ∷ (9, r41) ∷ (10, r26) ∷ (11, L.h64) ∷ (12, r37) ∷ (13, L.hbool) ∷ (14, r10) ∷
+    (15, r13) ∷ []
+
+abbrev t34 : List.List Row.Entry
+t34 = (0, L.gunit) ∷ (1, r27) ∷ (2, r46) ∷ (3, r38) ∷ (4, r31) ∷ (5, r47) ∷ (6, r39) ∷ (7, r45) ∷ (8, r40) ∷ (9, r41) ∷ (10, r26) ∷ (11, L.h64) ∷ (12, r37) ∷ (13, L.gbool) ∷ (14, r3) ∷
+    (15, Relend.msptr S.row y6 1) ∷ []
+
 abbrev t37 : List.List Row.Entry
 t37 = (0, L.gunit) ∷ (1, r27) ∷ (2, r46) ∷ (3, r38) ∷ (4, r31) ∷ (5, r42) ∷ (6, r39) ∷ (7, r45) ∷ (8, r40) ∷ (9, r41) ∷ (10, r26) ∷ (11, L.h64) ∷ (12, r37) ∷ (13, L.gbool) ∷ (14, r3) ∷
     (15, r13) ∷ []
@@ -420,12 +444,54 @@ t37 = (0, L.gunit) ∷ (1, r27) ∷ (2, r46) ∷ (3, r38) ∷ (4, r31) ∷ (5, r
 abbrev t38 : List.List Row.Entry
 t38 = (16, r19) ∷ (17, Relend.msptr L.u8 y5 2) ∷ (18, r14) ∷ (19, r7) ∷ (20, r14) ∷ (21, r11) ∷ (22, r8) ∷ (23, r9) ∷ []
 
+abbrev t40 : List.List Row.Entry
+t40 = (0, L.gunit) ∷ (1, r27) ∷ (2, r46) ∷ (3, r38) ∷ (4, r31) ∷ (5, r42) ∷ (6, r35) ∷ (7, r45) ∷ (8, r40) ∷ (9, r41) ∷ (10, r26) ∷ (11, L.h64) ∷ (12, r37) ∷ (13, L.gbool) ∷ (14, r3) ∷
+    (15, r13) ∷ []
+
+abbrev t41 : List.List Row.Entry
+t41 = (16, r19) ∷ (17, r12) ∷ (18, r15) ∷ (19, Relend.msptr L.u8 y0 3) ∷ (20, r14) ∷ (21, r11) ∷ (22, r8) ∷ (23, r9) ∷ []
+
+abbrev t43 : List.List Row.Entry
+t43 = (0, L.gunit) ∷ (1, r27) ∷ (2, r46) ∷ (3, r38) ∷ (4, r31) ∷ (5, r42) ∷ (6, r35) ∷ (7, r32) ∷ (8, r40) ∷ (9, r41) ∷ (10, r26) ∷ (11, L.h64) ∷ (12, r37) ∷ (13, L.gbool) ∷ (14, r3) ∷
+    (15, r13) ∷ []
+
+abbrev t44 : List.List Row.Entry
+t44 = (16, r19) ∷ (17, r12) ∷ (18, r15) ∷ (19, r7) ∷ (20, r16) ∷ (21, r4) ∷ (22, r8) ∷ (23, r9) ∷ []
+
+abbrev t47 : List.List Row.Entry
+t47 = (0, L.gunit) ∷ (1, r27) ∷ (2, r46) ∷ (3, r38) ∷ (4, r31) ∷ (5, r42) ∷ (6, r35) ∷ (7, r32) ∷ (8, r28) ∷ (9, r29) ∷ (10, r26) ∷ (11, L.h64) ∷ (12, r37) ∷ (13, L.gbool) ∷ (14, r3) ∷
+    (15, r13) ∷ []
+
+abbrev t48 : List.List Row.Entry
+t48 = (16, r19) ∷ (17, r12) ∷ (18, r15) ∷ (19, r7) ∷ (20, r16) ∷ (21, r4) ∷ (22, r0) ∷ (23, Rows'.mref (Array'.Array L.u8 66048) y1 6) ∷ []
+
 abbrev t49 : List.List Row.Entry
 t49 = (0, L.gunit) ∷ (1, r27) ∷ (2, r46) ∷ (3, r38) ∷ (4, r31) ∷ (5, r42) ∷ (6, r35) ∷ (7, r32) ∷ (8, r28) ∷ (9, r29) ∷ (10, r26) ∷ (11, L.h64) ∷ (12, r30) ∷ (13, L.gbool) ∷ (14, r5) ∷
     (15, r13) ∷ []
 
 abbrev t50 : List.List Row.Entry
 t50 = (16, Mut.msleft S.row y9) ∷ (17, r12) ∷ (18, r17) ∷ (19, r7) ∷ (20, r17) ∷ (21, r6) ∷ (22, r1) ∷ (23, r2) ∷ []
+
+abbrev t53 : List.List Row.Entry
+t53 = (0, L.gunit) ∷ (1, r27) ∷ (2, r46) ∷ (3, r43) ∷ (4, r44) ∷ (5, r42) ∷ (6, r35) ∷ (7, r32) ∷ (8, r28) ∷ (9, r29) ∷ (10, r34) ∷ (11, L.h64) ∷ (12, r30) ∷ (13, L.gbool) ∷ (14, r10) ∷
+    (15, r13) ∷ []
+
+abbrev t54 : List.List Row.Entry
+t54 = (16, r18) ∷ (17, r12) ∷ (18, r17) ∷ (19, r7) ∷ (20, r17) ∷ (21, r6) ∷ (22, r1) ∷ (23, r2) ∷ []
+
+abbrev t57 : List.List Row.Entry
+t57 = (0, L.gunit) ∷ (1, r27) ∷ (2, r46) ∷ (3, r43) ∷ (4, r44) ∷ (5, r47) ∷ (6, r39) ∷ (7, r32) ∷ (8, r28) ∷ (9, r29) ∷ (10, r34) ∷ (11, L.h64) ∷ (12, r30) ∷ (13, L.gbool) ∷ (14, r10) ∷
+    (15, r13) ∷ []
+
+abbrev t58 : List.List Row.Entry
+t58 = (16, r18) ∷ (17, r12) ∷ (18, r14) ∷ (19, r7) ∷ (20, r14) ∷ (21, r6) ∷ (22, r1) ∷ (23, r2) ∷ []
+
+abbrev t61 : List.List Row.Entry
+t61 = (0, L.gunit) ∷ (1, r27) ∷ (2, r46) ∷ (3, r43) ∷ (4, r44) ∷ (5, r47) ∷ (6, r39) ∷ (7, r45) ∷ (8, r40) ∷ (9, r29) ∷ (10, r34) ∷ (11, L.h64) ∷ (12, r30) ∷ (13, L.gbool) ∷ (14, r10) ∷
+    (15, r13) ∷ []
+
+abbrev t62 : List.List Row.Entry
+t62 = (16, r18) ∷ (17, r12) ∷ (18, r14) ∷ (19, r7) ∷ (20, r14) ∷ (21, r11) ∷ (22, r8) ∷ (23, r2) ∷ []
 
 abbrev on : Nat.ℕ → Row.Row → Row.Cx → Row.Cx
 on n r Γ = record { locals = Row.setRow n (n, r) (Γ .locals); slots = Γ .slots }
@@ -461,10 +527,10 @@ abbrev T8 : Row.Cx
 T8 = on 4 r44 T6
 
 abbrev T9 : Row.Cx
-T9 = on 5 (Rows'.whole (Array'.Array L.u8 2)) T8
+T9 = record { locals = List._++_ t10 t1; slots = [] }
 
 abbrev T10 : Row.Cx
-T10 = on 5 r47 T8
+T10 = on 5 r47 T9
 
 abbrev T11 : Row.Cx
 T11 = on 6 (Rows'.whole (Array'.Array L.u8 65535)) T10
@@ -479,10 +545,10 @@ abbrev T14 : Row.Cx
 T14 = on 7 r45 T12
 
 abbrev T15 : Row.Cx
-T15 = on 8 (Rows'.whole (Array'.Array L.u64 6912)) T14
+T15 = record { locals = List._++_ t16 t1; slots = [] }
 
 abbrev T16 : Row.Cx
-T16 = on 8 r40 T14
+T16 = on 8 r40 T15
 
 abbrev T17 : Row.Cx
 T17 = on 9 (Rows'.whole (Array'.Array L.u8 66048)) T16
@@ -494,7 +560,7 @@ abbrev T19 : Row.Cx
 T19 = on 10 r26 T18
 
 abbrev T20 : Row.Cx
-T20 = on 11 L.h64 T19
+T20 = record { locals = List._++_ t21 t1; slots = [] }
 
 abbrev T21 : Row.Cx
 T21 = on 11 L.h64 T0
@@ -506,10 +572,10 @@ abbrev T25 : Row.Cx
 T25 = on 1 r36 T22
 
 abbrev T26 : Row.Cx
-T26 = on 13 L.hbool (on 10 r26 (on 9 r41 (on 8 r40 (on 7 r45 (on 6 r39 (on 5 r47 (on 4 r44 T21)))))))
+T26 = on 3 r33 T25
 
 abbrev T27 : Row.Cx
-T27 = on 4 r23 T26
+T27 = record { locals = List._++_ t26 t1; slots = [] }
 
 abbrev T28 : Row.Cx
 T28 = on 5 r25 T27
@@ -518,10 +584,10 @@ abbrev T29 : Row.Cx
 T29 = on 6 r20 T28
 
 abbrev T30 : Row.Cx
-T30 = on 13 L.hbool (on 10 r26 (on 9 r41 (on 8 r40 T21)))
+T30 = on 7 r24 T29
 
 abbrev T31 : Row.Cx
-T31 = on 8 r21 T30
+T31 = record { locals = List._++_ t30 t1; slots = [] }
 
 abbrev T32 : Row.Cx
 T32 = on 9 r22 T31
@@ -533,10 +599,10 @@ abbrev T36 : Row.Cx
 T36 = on 14 r3 (on 4 r31 T20)
 
 abbrev T38 : Row.Cx
-T38 = on 15 (Relend.msptr S.row y6 1) (on 14 r3 (on 10 r26 (on 9 r41 (on 8 r40 (on 7 r45 (on 6 r39 (on 5 r47 (on 4 r31 (on 3 r38 (on 1 r27 T21))))))))))
+T38 = record { locals = List._++_ t34 t1; slots = [] }
 
 abbrev T39 : Row.Cx
-T39 = on 16 r19 (on 14 r3 (on 10 r26 (on 9 r41 (on 8 r40 (on 7 r45 (on 6 r39 (on 5 r47 (on 4 r31 (on 3 r38 (on 1 r27 T21))))))))))
+T39 = on 16 r19 (on 15 r13 T38)
 
 abbrev T41 : Row.Cx
 T41 = record { locals = List._++_ t37 t38; slots = [] }
@@ -545,19 +611,19 @@ abbrev T42 : Row.Cx
 T42 = on 18 r15 (on 17 r12 T41)
 
 abbrev T44 : Row.Cx
-T44 = on 19 (Relend.msptr L.u8 y0 3) (on 6 r35 T42)
+T44 = record { locals = List._++_ t40 t41; slots = [] }
 
 abbrev T45 : Row.Cx
-T45 = on 20 r16 (on 6 r35 T42)
+T45 = on 20 r16 (on 19 r7 T44)
 
 abbrev T47 : Row.Cx
-T47 = on 21 r4 (on 7 r32 T45)
+T47 = record { locals = List._++_ t43 t44; slots = [] }
 
 abbrev T49 : Row.Cx
 T49 = on 22 r0 (on 8 r28 T47)
 
 abbrev T51 : Row.Cx
-T51 = on 23 (Rows'.mref (Array'.Array L.u8 66048) y1 6) (on 9 r29 T49)
+T51 = record { locals = List._++_ t47 t48; slots = [] }
 
 abbrev T52 : Row.Cx
 T52 = record { locals = List._++_ t49 t50; slots = [] }
@@ -569,22 +635,22 @@ abbrev T55 : Row.Cx
 T55 = on 14 r10 (on 4 r44 T53)
 
 abbrev T58 : Row.Cx
-T58 = on 16 r18 (on 3 r43 T55)
+T58 = record { locals = List._++_ t53 t54; slots = [] }
 
 abbrev T61 : Row.Cx
 T61 = on 18 r14 (on 5 r47 T58)
 
 abbrev T64 : Row.Cx
-T64 = on 20 r14 (on 6 r39 T61)
+T64 = record { locals = List._++_ t57 t58; slots = [] }
 
 abbrev T67 : Row.Cx
 T67 = on 21 r11 (on 7 r45 T64)
 
 abbrev T70 : Row.Cx
-T70 = on 23 r2 (on 12 r30 (on 11 L.h64 (on 9 r29 T16)))
+T70 = record { locals = List._++_ t61 t62; slots = [] }
 
 abbrev T73 : Row.Cx
-T73 = on 12 r30 (on 10 r34 T20)
+T73 = on 23 r9 (on 9 r41 T70)
 
 abbrev T75 : Row.Cx
 T75 = on 12 r30 T20
@@ -971,9 +1037,6 @@ module _ (cl : Claims) where
         abbrev G7 : Row.Cx
         G7 = lives z0 T7
 
-        abbrev G8 : Row.Cx
-        G8 = lives z0 T8
-
         abbrev G9 : Row.Cx
         G9 = lives z0 T9
 
@@ -1021,13 +1084,13 @@ module _ (cl : Claims) where
           abbrev E : Wp.Env U H
           E = Frame.EnvOf U H (Kinds.tyR r ∷ (Enter.tysP ps xs)) bs
 
-          pre : {Γ Γ₁ : Row.Cx} {b : Y.Body} {Δ : Typed.Outs} {φ : Typed.Tf Γ Γ₁} {Φ : Typed.TF Γ₁ Δ} → Typed.Ghost U H A E Γ Γ₁ φ → Typed.Typed U H A C E Γ₁ b Δ Φ → Typed.Typed U H A C E Γ
+          pre : {Γ Γ₁ : Row.Cx} {b : Y.Body} {Δ : Typed.Outs} {Φ : Typed.TF Γ₁ Δ} (φ : Typed.Tf Γ Γ₁) → Typed.Ghost U H A E Γ Γ₁ φ → Typed.Typed U H A C E Γ₁ b Δ Φ → Typed.Typed U H A C E Γ
               b Δ (λ Ψ. φ (Φ Ψ))
-          pre = Typed.g-pre U H A W C E _ _ _ _ _ _
+          pre φ = Typed.g-pre U H A W C E _ _ _ _ φ _
 
-          seq : {Γ Γ₁ : Row.Cx} {a b : Y.Body} {Δ : Typed.Outs} {φ : Typed.Tf Γ Γ₁} {Φ : Typed.TF Γ₁ Δ} → Typed.Stmt U H A C E Γ a Γ₁ φ → Typed.Typed U H A C E Γ₁ b Δ Φ → Typed.Typed U H A C
+          seq : {Γ Γ₁ : Row.Cx} {a b : Y.Body} {Δ : Typed.Outs} {Φ : Typed.TF Γ₁ Δ} (φ : Typed.Tf Γ Γ₁) → Typed.Stmt U H A C E Γ a Γ₁ φ → Typed.Typed U H A C E Γ₁ b Δ Φ → Typed.Typed U H A C
               E Γ (Y.seq a b) Δ (λ Ψ. φ (Φ Ψ))
-          seq = Typed.s-seq U H A W C E _ _ _ _ _ _ _
+          seq φ = Typed.s-seq U H A W C E _ _ _ _ _ φ _
 
           room : {Γ : Row.Cx} (n : Nat.ℕ) (τ : Y.Ty) → Reads'.ToRoom U H A (Row.getRow n (Γ .locals) .1) τ → Typed.Ghost U H A E Γ (Scalar.After Γ n (Rows'.any-gone τ)) (Typed.pass Γ
               (Scalar.After Γ n (Rows'.any-gone τ)) (Scalar.n-room Γ n τ))
@@ -1043,105 +1106,108 @@ module _ (cl : Claims) where
           gone = Reads'.room-gone U H A
 
           d1 : Typed.Typed U H A C E G22 b12 Δ4 at1
-          d1 = pre (room 13 Y.tyBool (Scalar.room-sc U H A W Row.sBool)) (Typed.t-skip U H A W C E Δ4 tt)
+          d1 = pre (Typed.pass T22 T20 s20) (room 13 Y.tyBool (Scalar.room-sc U H A W Row.sBool)) (Typed.t-skip U H A W C E Δ4 tt)
 
           d9 : Typed.Typed U H A C E (lives z0 T27) b13 Δ4 at9
-          d9 = pre (room 5 y15 (Init.room-arr U H A W L.u8 2 0 2 refl)) (pre (room 6 y10 (Init.room-arr U H A W L.u8 65535 0 65535 refl)) (pre (room 7 y14 (Init.room-arr U H A W L.u64 512 0
-              512 refl)) (pre (room 8 y11 (Init.room-arr U H A W L.u64 6912 0 6912 refl)) (pre (room 9 y12 (Init.room-arr U H A W L.u8 66048 0 66048 refl)) (pre (room 10 Session′.mir
-              (Local.room-whole U H A W (Declared.row Session.the-type) Session′.mir refl)) (pre (room 13 Y.tyBool (Scalar.room-sc U H A W Row.sBool)) (Typed.t-exit U H A W C E 1 Δ4
-              tt)))))))
+          d9 = pre (Typed.pass T27 T28 s24) (room 5 y15 (Init.room-arr U H A W L.u8 2 0 2 refl)) (pre (Typed.pass T28 T29 s25) (room 6 y10 (Init.room-arr U H A W L.u8 65535 0 65535 refl))
+              (pre (Typed.pass T29 T30 s26) (room 7 y14 (Init.room-arr U H A W L.u64 512 0 512 refl)) (pre (Typed.pass T30 T31 s27) (room 8 y11 (Init.room-arr U H A W L.u64 6912 0 6912
+              refl)) (pre (Typed.pass T31 T32 s28) (room 9 y12 (Init.room-arr U H A W L.u8 66048 0 66048 refl)) (pre (Typed.pass T32 T33 s29) (room 10 Session′.mir (Local.room-whole U H A W
+              (Declared.row Session.the-type) Session′.mir refl)) (pre (Typed.pass T33 T21 s30) (room 13 Y.tyBool (Scalar.room-sc U H A W Row.sBool)) (Typed.t-exit U H A W C E 1 Δ4 tt)))))))
 
           d12 : Typed.Typed U H A C E G22 b13 Δ4 at12
-          d12 = pre (room 1 Begun′.mir (Local.room-whole U H A W (Declared.row Begun.the-type) Begun′.mir refl)) (pre (room 3 y17 (Init.room-arr U H A W S.row 256 0 256 refl)) (pre (room 4
-              y13 (Init.room-arr U H A W L.u64 928 0 928 refl)) d9))
+          d12 = pre (Typed.pass T22 T25 s21) (room 1 Begun′.mir (Local.room-whole U H A W (Declared.row Begun.the-type) Begun′.mir refl)) (pre (Typed.pass T25 T26 s22) (room 3 y17
+              (Init.room-arr U H A W S.row 256 0 256 refl)) (pre (Typed.pass T26 T27 s23) (room 4 y13 (Init.room-arr U H A W L.u64 928 0 928 refl)) d9))
 
           d13 : Typed.Typed U H A C E G22 b14 Δ4 at13
           d13 = Scalar.t-cond U H A W E C _ 13 (λ x. x) b12 b13 Δ4 at1 at12 (Scalar.reads-sc U H A W Row.sBool) refl d1 d12
 
           d21 : Typed.Typed U H A C E (lives (Row.off ∷ Row.off ∷ Row.off ∷ Row.off ∷ Row.off ∷ Row.alive ∷ Row.alive ∷ []) T67) b28 Δ3 at21
-          d21 = pre (Lifetime.g-end U H A W E _ 5 refl) (pre (Local.g-back-sc U H A W E _ 22 8 5 (Array'.Array L.u64 6912) y2 r40 (λ x. x) (λ x. x) (λ x. x) (as-is r1) (as-is r28)
-              (Whole.arr-mem U H A W L.u64 6912 tt) refl) (pre (Lifetime.g-forget U H A W E _ 5 Row.dead refl) (pre (Lifetime.g-end U H A W E _ 6 refl) (pre (Local.g-back-sc U H A W E _ 23 9
-              6 (Array'.Array L.u8 66048) y1 r41 (λ x. x) (λ x. x) (λ x. x) (as-is r2) (as-is r29) (Whole.arr-mem U H A W L.u8 66048 tt) refl) (pre (Lifetime.g-forget U H A W E _ 6 Row.dead
-              refl) (seq (WayStmt.t-way-copy-out U H A W E C (Declared.row Session.the-type) refl (Copies.cStruct Session.the-type Session′.the-laws Session′.the-copy .copy U H A W) (λ ρ.
-              Unit) _ (Row.out 12 (G74 .locals)) (λ u. Row.drop 12 (G74 .locals) u) (G74 .slots) 12 (λ t. Y.field 0 ∷ t) Session′.mir Session′.mir 10 r26 (λ x. x) (λ u. At.getAt
-              (After.the-type .parts) 0 (After.struct .as-values (u .1 .1 .1 .1 .1 .1 .1 .1 .1 .1 .1 .1 .0))) (λ u. (Row.rd 0 12 bs, Nat._+_ 0 0)) (λ T′. record
-              { locals = Row.setRow 12 (12, r30) T′; slots = G74 .slots }) (λ u T′ m′. Row.set 12 (12, r30) (u .1 .1 .1 .1 .1 .1 .1 .1 .1 .1 .1 .1 .0) T′ m′) (λ u. Unit) (λ x. Unit)
-              (Own.told-none U H A (G74 .slots)) (DerefMove.learns-nothing U H A (Declared.row Session.the-type)) (λ ρ told u asked. Way'.w-partˢ U H A W E (Declared.row After.the-type)
-              (Declared.row Session.the-type) After′.mir Session′.mir 0 0 (u .1 .1 .1 .1 .1 .1 .1 .1 .1 .1 .1 .1 .0) (At.getAt (After.the-type .parts) 0 (After.struct .as-values (u .1 .1 .1
-              .1 .1 .1 .1 .1 .1 .1 .1 .1 .0))) (Row.rd 0 12 bs, 0) (Way.w-look U H A W E (Way.w-local U H A W E _ ρ u (G74 .slots) 12 (Declared.row After.the-type) r30 (λ x. x) (λ x. x) (u
-              .1 .1 .1 .1 .1 .1 .1 .1 .1 .1 .1 .1 .0) (Local.mem-whole U H A W (Declared.row After.the-type) ρ (u .1 .1 .1 .1 .1 .1 .1 .1 .1 .1 .1 .1 .0) (Row.rd 0 12 bs)) (Local.whole-mem U
-              H A W (Declared.row After.the-type) ρ (u .1 .1 .1 .1 .1 .1 .1 .1 .1 .1 .1 .1 .0) (Row.rd 0 12 bs)))) refl λ q. Inner.cut-record U H A q (Declared.row After.the-type)
-              Session.the-type 0 (u .1 .1 .1 .1 .1 .1 .1 .1 .1 .1 .1 .1 .0) (u .1 .1 .1 .1 .1 .1 .1 .1 .1 .1 .1 .1 .0) (At.getAt (After.the-type .parts) 0 (After.struct .as-values (u .1 .1
-              .1 .1 .1 .1 .1 .1 .1 .1 .1 .1 .0))) (At.getAt (After.the-type .parts) 0 (After.struct .as-values (u .1 .1 .1 .1 .1 .1 .1 .1 .1 .1 .1 .1 .0))) (Row.rd 0 12 bs, 0)
-              (Behind.look-at U H A W q After.the-type After′.the-laws 0 0 refl refl (Row.rd 0 12 bs, 0) (u .1 .1 .1 .1 .1 .1 .1 .1 .1 .1 .1 .1 .0) (After.struct .as-values (u .1 .1 .1 .1 .1
-              .1 .1 .1 .1 .1 .1 .1 .0)) refl)) (gone Session′.mir) (Yields.makes-mem U H A W (λ ρ. Unit) (Declared.row Session.the-type) refl r26 (λ x. x) λ ρ told. Local.whole-mem U H A W
-              (Declared.row Session.the-type) ρ) refl refl refl) (Typed.s-typed U H A W C E _ b27 Δ3 (λ Ψ. Typed.both s72 (Typed.pass T75 T20 s73 Ψ)) tt (Typed.g-post U H A W C E _ _ _ b27
-              (Typed.both s72) (Typed.pass T75 T20 s73) (Plain.t-call-plain U H A W C 0 ps·4 r·4 (cl .8) (cl .9) "session_main::turns_after" (known .4) E (λ pos β. β) _
-              (Num.vAt 11 λ x. x, (Bool.bFld 12 (Y.field 1 ∷ []) 88 λ x. After.struct .as-values x .1 .0, tt)) 11 [] (Call.sub-id U H A W _)
+          d21 = pre (λ Ψ. Ψ) (Lifetime.g-end U H A W E _ 5 refl) (pre (Typed.ask s66) (Local.g-back-sc U H A W E _ 22 8 5 (Array'.Array L.u64 6912) y2 r40 (λ x. x) (λ x. x) (λ x. x) (as-is
+              r1) (as-is r28) (Whole.arr-mem U H A W L.u64 6912 tt) refl) (pre (λ Ψ. Ψ) (Lifetime.g-forget U H A W E _ 5 Row.dead refl) (pre (λ Ψ. Ψ) (Lifetime.g-end U H A W E _ 6 refl) (pre
+              (Typed.ask s69) (Local.g-back-sc U H A W E _ 23 9 6 (Array'.Array L.u8 66048) y1 r41 (λ x. x) (λ x. x) (λ x. x) (as-is r2) (as-is r29) (Whole.arr-mem U H A W L.u8 66048 tt)
+              refl) (pre (λ Ψ. Ψ) (Lifetime.g-forget U H A W E _ 6 Row.dead refl) (seq (Typed.both s71) (WayStmt.t-way-copy-out U H A W E C (Declared.row Session.the-type) refl
+              (Copies.cStruct Session.the-type Session′.the-laws Session′.the-copy .copy U H A W) (λ ρ. Unit) _ (Row.out 12 (G74 .locals)) (λ u. Row.drop 12 (G74 .locals) u) (G74 .slots) 12
+              (λ t. Y.field 0 ∷ t) Session′.mir Session′.mir 10 r26 (λ x. x) (λ u. At.getAt (After.the-type .parts) 0 (After.struct .as-values (u .1 .1 .1 .1 .1 .1 .1 .1 .1 .1 .1 .1 .0))) (λ
+              u. (Row.rd 0 12 bs, Nat._+_ 0 0)) (λ T′. record { locals = Row.setRow 12 (12, r30) T′; slots = G74 .slots }) (λ u T′ m′. Row.set 12 (12, r30) (u .1 .1 .1 .1 .1 .1 .1 .1 .1 .1
+              .1 .1 .0) T′ m′) (λ u. Unit) (λ x. Unit) (Own.told-none U H A (G74 .slots)) (DerefMove.learns-nothing U H A (Declared.row Session.the-type)) (λ ρ told u asked. Way'.w-partˢ U H
+              A W E (Declared.row After.the-type) (Declared.row Session.the-type) After′.mir Session′.mir 0 0 (u .1 .1 .1 .1 .1 .1 .1 .1 .1 .1 .1 .1 .0) (At.getAt (After.the-type .parts) 0
+              (After.struct .as-values (u .1 .1 .1 .1 .1 .1 .1 .1 .1 .1 .1 .1 .0))) (Row.rd 0 12 bs, 0) (Way.w-look U H A W E (Way.w-local U H A W E _ ρ u (G74 .slots) 12 (Declared.row
+              After.the-type) r30 (λ x. x) (λ x. x) (u .1 .1 .1 .1 .1 .1 .1 .1 .1 .1 .1 .1 .0) (Local.mem-whole U H A W (Declared.row After.the-type) ρ (u .1 .1 .1 .1 .1 .1 .1 .1 .1 .1 .1 .1
+              .0) (Row.rd 0 12 bs)) (Local.whole-mem U H A W (Declared.row After.the-type) ρ (u .1 .1 .1 .1 .1 .1 .1 .1 .1 .1 .1 .1 .0) (Row.rd 0 12 bs)))) refl λ q. Inner.cut-record U H A q
+              (Declared.row After.the-type) Session.the-type 0 (u .1 .1 .1 .1 .1 .1 .1 .1 .1 .1 .1 .1 .0) (u .1 .1 .1 .1 .1 .1 .1 .1 .1 .1 .1 .1 .0) (At.getAt (After.the-type .parts) 0
+              (After.struct .as-values (u .1 .1 .1 .1 .1 .1 .1 .1 .1 .1 .1 .1 .0))) (At.getAt (After.the-type .parts) 0 (After.struct .as-values (u .1 .1 .1 .1 .1 .1 .1 .1 .1 .1 .1 .1 .0)))
+              (Row.rd 0 12 bs, 0) (Behind.look-at U H A W q After.the-type After′.the-laws 0 0 refl refl (Row.rd 0 12 bs, 0) (u .1 .1 .1 .1 .1 .1 .1 .1 .1 .1 .1 .1 .0) (After.struct
+              .as-values (u .1 .1 .1 .1 .1 .1 .1 .1 .1 .1 .1 .1 .0)) refl)) (gone Session′.mir) (Yields.makes-mem U H A W (λ ρ. Unit) (Declared.row Session.the-type) refl r26 (λ x. x) λ ρ
+              told. Local.whole-mem U H A W (Declared.row Session.the-type) ρ) refl refl refl) (Typed.s-typed U H A W C E _ b27 Δ3 (λ Ψ. Typed.both s72 (Typed.pass T75 T20 s73 Ψ)) tt
+              (Typed.g-post U H A W C E _ _ _ b27 (Typed.both s72) (Typed.pass T75 T20 s73) (Plain.t-call-plain U H A W C 0 ps·4 r·4 (cl .8) (cl .9) "session_main::turns_after" (known .4) E
+              (λ pos β. β) _ (Num.vAt 11 λ x. x, (Bool.bFld 12 (Y.field 1 ∷ []) 88 λ x. After.struct .as-values x .1 .0, tt)) 11 [] (Call.sub-id U H A W _)
               ((Scalar.reads-sc U H A W (Row.sInt Y.w64), refl), ((Reads.reads-field U H A W After.the-type After′.the-laws 1 Y.tyBool 88 refl, refl), tt)) (Scalar.room-sc U H A W (Row.sInt
               Y.w64)) tt refl) (room 12 After′.mir (Local.room-whole U H A W (Declared.row After.the-type) After′.mir refl))))))))))
 
           d29 : Typed.Typed U H A C E (lives (Row.off ∷ Row.off ∷ Row.dead ∷ Row.alive ∷ Row.alive ∷ Row.alive ∷ Row.alive ∷ []) T58) b28 Δ3 at29
-          d29 = pre (Borrow.g-back-arr U H A W E L.u8 _ 18 5 2 2 y8 (λ x. x) (λ x. x) (as-is r17) (as-is r42) refl) (pre (Lifetime.g-forget U H A W E _ 2 Row.dead refl) (pre (Lifetime.g-end
-              U H A W E _ 3 refl) (pre (Borrow.g-back-arr U H A W E L.u8 _ 20 6 3 65535 y8 (λ x. x) (λ x. x) (as-is r17) (as-is r35) refl) (pre (Lifetime.g-forget U H A W E _ 3 Row.dead
-              refl) (pre (Lifetime.g-end U H A W E _ 4 refl) (pre (Local.g-back-sc U H A W E _ 21 7 4 (Array'.Array L.u64 512) y4 r45 (λ x. x) (λ x. x) (λ x. x) (as-is r6) (as-is r32)
-              (Whole.arr-mem U H A W L.u64 512 tt) refl) (pre (Lifetime.g-forget U H A W E _ 4 Row.dead refl) d21)))))))
+          d29 = pre (Typed.both s57) (Borrow.g-back-arr U H A W E L.u8 _ 18 5 2 2 y8 (λ x. x) (λ x. x) (as-is r17) (as-is r42) refl) (pre (λ Ψ. Ψ) (Lifetime.g-forget U H A W E _ 2 Row.dead
+              refl) (pre (λ Ψ. Ψ) (Lifetime.g-end U H A W E _ 3 refl) (pre (Typed.both s60) (Borrow.g-back-arr U H A W E L.u8 _ 20 6 3 65535 y8 (λ x. x) (λ x. x) (as-is r17) (as-is r35)
+              refl) (pre (λ Ψ. Ψ) (Lifetime.g-forget U H A W E _ 3 Row.dead refl) (pre (λ Ψ. Ψ) (Lifetime.g-end U H A W E _ 4 refl) (pre (Typed.ask s63) (Local.g-back-sc U H A W E _ 21 7 4
+              (Array'.Array L.u64 512) y4 r45 (λ x. x) (λ x. x) (λ x. x) (as-is r6) (as-is r32) (Whole.arr-mem U H A W L.u64 512 tt) refl) (pre (λ Ψ. Ψ) (Lifetime.g-forget U H A W E _ 4
+              Row.dead refl) d21)))))))
 
           d37 : Typed.Typed U H A C E (lives (Row.alive ∷ Row.alive ∷ Row.alive ∷ Row.alive ∷ Row.alive ∷ Row.alive ∷ Row.alive ∷ []) T52) b28 Δ3 at37
-          d37 = pre (room 10 Session′.mir (Local.room-whole U H A W (Declared.row Session.the-type) Session′.mir refl)) (pre (Lifetime.g-end U H A W E _ 0 refl) (pre (Local.g-back-sc U H A W
-              E _ 14 4 0 (Array'.Array L.u64 928) y3 r44 (λ x. x) (λ x. x) (λ x. x) (as-is r5) (as-is r31) (Whole.arr-mem U H A W L.u64 928 tt) refl) (pre (Lifetime.g-forget U H A W E _ 0
-              Row.dead refl) (pre (Lifetime.g-end U H A W E _ 1 refl) (pre (Borrow.g-back-arr U H A W E S.row _ 16 3 1 256 y9 (λ x. x) (λ x. x) (as-is (Mut.msleft S.row y9)) (as-is r38)
-              refl) (pre (Lifetime.g-forget U H A W E _ 1 Row.dead refl) (pre (Lifetime.g-end U H A W E _ 2 refl) d29)))))))
+          d37 = pre (Typed.pass T52 T53 s49) (room 10 Session′.mir (Local.room-whole U H A W (Declared.row Session.the-type) Session′.mir refl)) (pre (λ Ψ. Ψ) (Lifetime.g-end U H A W E _ 0
+              refl) (pre (Typed.ask s51) (Local.g-back-sc U H A W E _ 14 4 0 (Array'.Array L.u64 928) y3 r44 (λ x. x) (λ x. x) (λ x. x) (as-is r5) (as-is r31) (Whole.arr-mem U H A W L.u64
+              928 tt) refl) (pre (λ Ψ. Ψ) (Lifetime.g-forget U H A W E _ 0 Row.dead refl) (pre (λ Ψ. Ψ) (Lifetime.g-end U H A W E _ 1 refl) (pre (Typed.both s54) (Borrow.g-back-arr U H A W E
+              S.row _ 16 3 1 256 y9 (λ x. x) (λ x. x) (as-is (Mut.msleft S.row y9)) (as-is r38) refl) (pre (λ Ψ. Ψ) (Lifetime.g-forget U H A W E _ 1 Row.dead refl) (pre (λ Ψ. Ψ)
+              (Lifetime.g-end U H A W E _ 2 refl) d29)))))))
 
           d45 : Typed.Typed U H A C E (lives z4 T44) b33 Δ3 at45
-          d45 = seq (Relend.t-sl-aggregate U H A W E L.u8 C (Relend.asMut L.u8) _ 19 20 3 y0 y8 (λ x. x) (Scalar.oBig Y.w64 65535) (as-is (Relend.msptr L.u8 y0 3)) (gone y7) record
-              { lower = record { fits = Dec'.lit< tt } } refl refl λ b o k. tt) (pre (begin 4 _) (seq (Local.t-sc-borrow U H A W E C _ 7 21 4 (Array'.Array L.u64 512) y4 (λ x. x)
-              (Whole.mem-arr U H A W L.u64 512) (gone y4) refl λ b o. tt) (pre (begin 5 _) (seq (Local.t-sc-borrow U H A W E C _ 8 22 5 (Array'.Array L.u64 6912) y2 (λ x. x) (Whole.mem-arr U
-              H A W L.u64 6912) (gone y2) refl λ b o. tt) (pre (begin 6 _) (seq (Local.t-sc-borrow U H A W E C _ 9 23 6 (Array'.Array L.u8 66048) y1 (λ x. x) (Whole.mem-arr U H A W L.u8
-              66048) (gone y1) refl λ b o. tt) (seq (Plain.t-call-plain U H A W C 7 ps·3 r·3 (cl .6) (cl .7) "session_main::one_record" (known .3) E (λ pos β. β) _
+          d45 = seq (Typed.ask s41) (Relend.t-sl-aggregate U H A W E L.u8 C (Relend.asMut L.u8) _ 19 20 3 y0 y8 (λ x. x) (Scalar.oBig Y.w64 65535) (as-is (Relend.msptr L.u8 y0 3)) (gone y7)
+              record { lower = record { fits = Dec'.lit< tt } } refl refl λ b o k. tt) (pre (λ Ψ. Ψ) (begin 4 _) (seq (Typed.give s43) (Local.t-sc-borrow U H A W E C _ 7 21 4 (Array'.Array
+              L.u64 512) y4 (λ x. x) (Whole.mem-arr U H A W L.u64 512) (gone y4) refl λ b o. tt) (pre (λ Ψ. Ψ) (begin 5 _) (seq (Typed.give s45) (Local.t-sc-borrow U H A W E C _ 8 22 5
+              (Array'.Array L.u64 6912) y2 (λ x. x) (Whole.mem-arr U H A W L.u64 6912) (gone y2) refl λ b o. tt) (pre (λ Ψ. Ψ) (begin 6 _) (seq (Typed.give s47) (Local.t-sc-borrow U H A W E
+              C _ 9 23 6 (Array'.Array L.u8 66048) y1 (λ x. x) (Whole.mem-arr U H A W L.u8 66048) (gone y1) refl λ b o. tt) (seq (Typed.both s48) (Plain.t-call-plain U H A W C 7 ps·3 r·3 (cl
+              .6) (cl .7) "session_main::one_record" (known .3) E (λ pos β. β) _
               (record { pos = 10; st = []; d = 0; at = λ x. x }, (record { pos = 14; ty = y3; ref = λ x. x }, (record { pos = 16; ty = y9; ref = λ x. x }, (record { pos = 18; ty = y8; ref = λ x. x }, (record { pos = 20; ty = y8; ref = λ x. x }, (record { pos = 21; ty = y4; ref = λ x. x }, (record { pos = 22; ty = y2; ref = λ x. x }, (record { pos = 23; ty = y1; ref = λ x. x }, (Bool.bFld 1 (Y.field 1 ∷ []) 8 λ x. Begun.struct .as-values x .1 .0, tt)))))))))
               12 (0 ∷ 1 ∷ 2 ∷ 3 ∷ 4 ∷ 5 ∷ 6 ∷ []) (Call.sub-id U H A W _)
               ((Yields.yields-copy U H A W (λ ρ. Unit) (Declared.row Session.the-type) refl (Copies.cStruct Session.the-type Session′.the-laws Session′.the-copy .copy U H A W) r26 (λ x. x) (λ x. x) (λ ρ told. Local.mem-whole U H A W (Declared.row Session.the-type) ρ) λ ρ told. Local.whole-mem U H A W (Declared.row Session.the-type) ρ, refl), (as-is r3, Reads'.reads-mref U H A W (Array'.Array L.u64 928) y3 0, refl, (as-is r19, Mut.reads-mslice U H A W S.row y9 1, refl, (as-is r15, Mut.reads-mslice U H A W L.u8 y8 2, refl, (as-is r16, Mut.reads-mslice U H A W L.u8 y8 3, refl, (as-is r4, Reads'.reads-mref U H A W (Array'.Array L.u64 512) y4 4, refl, (as-is r0, Reads'.reads-mref U H A W (Array'.Array L.u64 6912) y2 5, refl, (as-is (Rows'.mref (Array'.Array L.u8 66048) y1 6), Reads'.reads-mref U H A W (Array'.Array L.u8 66048) y1 6, refl, ((Reads.reads-field U H A W Begun.the-type Begun′.the-laws 1 Y.tyBool 8 refl, refl), tt)))))))))
               (gone After′.mir) (tt, (tt, (tt, (tt, (tt, (tt, (tt, tt))))))) refl) d37)))))))
 
           d46 : Typed.Typed U H A C E (lives z4 T42) b34 Δ3 (at46 bs)
-          d46 = seq (Borrow.t-arr-borrow U H A W E C L.u8 _ 6 19 65535 3 y0 (λ x. x) (as-is r39) (gone y0) refl (λ b o. tt) (Dec'.lit< tt, Dec'.lit< tt)) d45
+          d46 = seq (Typed.give (s40 bs)) (Borrow.t-arr-borrow U H A W E C L.u8 _ 6 19 65535 3 y0 (λ x. x) (as-is r39) (gone y0) refl (λ b o. tt) (Dec'.lit< tt, Dec'.lit< tt)) d45
 
           d47 : Typed.Typed U H A C E (lives z3 T42) b34 Δ3 (at47 bs)
-          d47 = pre (begin 3 _) d46
+          d47 = pre (λ Ψ. Ψ) (begin 3 _) d46
 
           d48 : Typed.Typed U H A C E (lives z3 T41) b35 Δ3 (at48 bs)
-          d48 = seq (Relend.t-sl-aggregate U H A W E L.u8 C (Relend.asMut L.u8) _ 17 18 2 y5 y8 (λ x. x) (Scalar.oInt Y.w64 2) (as-is (Relend.msptr L.u8 y5 2)) (gone y7) tt refl refl λ b o
-              k. tt) d47
+          d48 = seq (Typed.ask s38) (Relend.t-sl-aggregate U H A W E L.u8 C (Relend.asMut L.u8) _ 17 18 2 y5 y8 (λ x. x) (Scalar.oInt Y.w64 2) (as-is (Relend.msptr L.u8 y5 2)) (gone y7) tt
+              refl refl λ b o k. tt) d47
 
           d49 : Typed.Typed U H A C E (lives z3 T39) b36 Δ3 (at49 bs)
-          d49 = seq (Borrow.t-arr-borrow U H A W E C L.u8 _ 5 17 2 2 y5 (λ x. x) (as-is r47) (gone y5) refl (λ b o. tt) (Dec'.lit< tt, Dec'.lit< tt)) d48
+          d49 = seq (Typed.give (s37 bs)) (Borrow.t-arr-borrow U H A W E C L.u8 _ 5 17 2 2 y5 (λ x. x) (as-is r47) (gone y5) refl (λ b o. tt) (Dec'.lit< tt, Dec'.lit< tt)) d48
 
           d50 : Typed.Typed U H A C E (lives z2 T39) b36 Δ3 (at50 bs)
-          d50 = pre (begin 2 _) d49
+          d50 = pre (λ Ψ. Ψ) (begin 2 _) d49
 
           d51 : Typed.Typed U H A C E (lives z2 T38) b37 Δ3 (at51 bs)
-          d51 = seq (Relend.t-sl-aggregate U H A W E S.row C (Relend.asMut S.row) _ 15 16 1 y6 y9 (λ x. x) (Scalar.oInt Y.w64 256) (as-is (Relend.msptr S.row y6 1)) (gone (L.sl y9)) tt refl
-              refl λ b o k. tt) d50
+          d51 = seq (Typed.ask s35) (Relend.t-sl-aggregate U H A W E S.row C (Relend.asMut S.row) _ 15 16 1 y6 y9 (λ x. x) (Scalar.oInt Y.w64 256) (as-is (Relend.msptr S.row y6 1)) (gone
+              (L.sl y9)) tt refl refl λ b o k. tt) d50
 
           d52 : Typed.Typed U H A C E (lives z2 T36) b38 Δ3 (at52 bs)
-          d52 = seq (Borrow.t-arr-borrow U H A W E C S.row _ 3 15 256 1 y6 (λ x. x) (as-is r43) (gone y6) refl (λ b o. tt) (Dec'.lit< tt, Dec'.lit< tt)) d51
+          d52 = seq (Typed.give (s34 bs)) (Borrow.t-arr-borrow U H A W E C S.row _ 3 15 256 1 y6 (λ x. x) (as-is r43) (gone y6) refl (λ b o. tt) (Dec'.lit< tt, Dec'.lit< tt)) d51
 
           d53 : Typed.Typed U H A C E (lives z1 T36) b38 Δ3 (at53 bs)
-          d53 = pre (begin 1 _) d52
+          d53 = pre (λ Ψ. Ψ) (begin 1 _) d52
 
           d54 : Typed.Typed U H A C E (lives z1 T20) b39 Δ3 (at54 bs)
-          d54 = seq (Local.t-sc-borrow U H A W E C _ 4 14 0 (Array'.Array L.u64 928) y3 (λ x. x) (Whole.mem-arr U H A W L.u64 928) (gone y3) refl λ b o. tt) d53
+          d54 = seq (Typed.give s32) (Local.t-sc-borrow U H A W E C _ 4 14 0 (Array'.Array L.u64 928) y3 (λ x. x) (Whole.mem-arr U H A W L.u64 928) (gone y3) refl λ b o. tt) d53
 
           d55 : Typed.Typed U H A C E G20 b39 Δ3 (at55 bs)
-          d55 = pre (begin 0 _) d54
+          d55 = pre (λ Ψ. Ψ) (begin 0 _) d54
 
           d56 : Typed.Typed U H A C E G22 b40 Δ3 (at56 bs)
           d56 = Typed.t-seq U H A W C E _ _ b14 b39 Δ3 at13 (at55 bs) d13 d55
 
           d57 : Typed.Typed U H A C E G20 b41 Δ3 (at57 bs)
-          d57 = seq (Scalar.t-op2 U H A W E C _ (Y.lt Y.unsigned) (Scalar.oInt Y.w64 0) (Scalar.oAt 11 (Y.tyInt Y.w64) (Row.valS (Row.sInt Y.w64))) 13 L.hbool Y.tyBool (Row.valS Row.sBool)
-              (Row.sBool .of) tt (Scalar.reads-sc U H A W (Row.sInt Y.w64), refl) (gone Y.tyBool) (Scalar.holds-sc U H A W Row.sBool) refl (λ u. refl) λ u. tt) d56
+          d57 = seq (Typed.ask s19) (Scalar.t-op2 U H A W E C _ (Y.lt Y.unsigned) (Scalar.oInt Y.w64 0) (Scalar.oAt 11 (Y.tyInt Y.w64) (Row.valS (Row.sInt Y.w64))) 13 L.hbool Y.tyBool
+              (Row.valS Row.sBool) (Row.sBool .of) tt (Scalar.reads-sc U H A W (Row.sInt Y.w64), refl) (gone Y.tyBool) (Scalar.holds-sc U H A W Row.sBool) refl (λ u. refl) λ u. tt) d56
 
           d58 : Typed.Typed U H A C E G20 b42 Δ2 (at58 bs)
           d58 = Typed.t-loop-by U H A W C E _ b41 Δ2 put0 (λ u vs. Inv·0 (Row.get 1 (T20 .locals) u) (Row.get 3 (T20 .locals) u) (Row.get 4 (T20 .locals) u) (Row.get 5 (T20 .locals) u)
@@ -1154,81 +1220,85 @@ module _ (cl : Claims) where
           d59 = Typed.t-block U H A W C E _ b42 Δ1 (at58 bs) d58
 
           d62 : Typed.Typed U H A C E G21 b46 Δ0 at62
-          d62 = seq (Scalar.t-use U H A W E C _ Scalar.oUnit 0 L.hunit Y.tyUnit (Row.valS Row.sUnit) (Row.sUnit .of) tt (gone Y.tyUnit) (Scalar.holds-sc U H A W Row.sUnit) refl (λ u. refl) λ
-              u. tt) (pre (room 11 (Y.tyInt Y.w64) (Scalar.room-sc U H A W (Row.sInt Y.w64))) (Typed.t-return U H A W C E Δ0 tt))
+          d62 = seq (Typed.pass T21 T78 s74) (Scalar.t-use U H A W E C _ Scalar.oUnit 0 L.hunit Y.tyUnit (Row.valS Row.sUnit) (Row.sUnit .of) tt (gone Y.tyUnit) (Scalar.holds-sc U H A W
+              Row.sUnit) refl (λ u. refl) λ u. tt) (pre (Typed.pass T78 T1 s75) (room 11 (Y.tyInt Y.w64) (Scalar.room-sc U H A W (Row.sInt Y.w64))) (Typed.t-return U H A W C E Δ0 tt))
 
           d63 : Typed.Typed U H A C E G20 b47 Δ0 (at63 bs)
           d63 = Typed.t-seq U H A W C E _ _ b43 b46 Δ0 (at59 bs) at62 d59 d62
 
           d64 : Typed.Typed U H A C E (lives z0 T19) b48 Δ0 (at64 bs)
-          d64 = seq (Scalar.t-use U H A W E C _ (Scalar.oFld 1 (Y.field 0 ∷ []) (Y.tyInt Y.w64) 0 (Reads.fieldV Begun.the-type Begun′.the-laws 0)) 11 L.h64 (Y.tyInt Y.w64) (Row.valS
-              (Row.sInt Y.w64)) (Row.sInt Y.w64 .of) (Reads.reads-field U H A W Begun.the-type Begun′.the-laws 0 (Y.tyInt Y.w64) 0 refl, refl) (gone (Y.tyInt Y.w64)) (Scalar.holds-sc U H A W
-              (Row.sInt Y.w64)) refl (λ u. refl) λ u. tt) d63
+          d64 = seq (Typed.pass T19 T20 s18) (Scalar.t-use U H A W E C _ (Scalar.oFld 1 (Y.field 0 ∷ []) (Y.tyInt Y.w64) 0 (Reads.fieldV Begun.the-type Begun′.the-laws 0)) 11 L.h64 (Y.tyInt
+              Y.w64) (Row.valS (Row.sInt Y.w64)) (Row.sInt Y.w64 .of) (Reads.reads-field U H A W Begun.the-type Begun′.the-laws 0 (Y.tyInt Y.w64) 0 refl, refl) (gone (Y.tyInt Y.w64))
+              (Scalar.holds-sc U H A W (Row.sInt Y.w64)) refl (λ u. refl) λ u. tt) d63
 
           d65 : Typed.Typed U H A C E (lives z0 T18) b49 Δ0 (at65 bs)
-          d65 = seq (Plain.t-call-plain U H A W C 0 ps·0 r·2 (cl .4) (cl .5) "session::start" (known .2) E (λ pos β. β) _ tt 10 [] (Call.sub-id U H A W _) tt (gone Session′.mir) tt refl) d64
+          d65 = seq (Typed.both s17) (Plain.t-call-plain U H A W C 0 ps·0 r·2 (cl .4) (cl .5) "session::start" (known .2) E (λ pos β. β) _ tt 10 [] (Call.sub-id U H A W _) tt (gone
+              Session′.mir) tt refl) d64
 
           d66 : Typed.Typed U H A C E G17 b49 Δ0 (at66 bs)
-          d66 = pre (AtSlots.g-as-by U H A W E (λ ρ. Unit) _ 9 r41 (λ x. x) (Own.told-none U H A (G17 .slots)) λ ρ told. Repeat.whole-arr U H A W L.u8 66048 tt ρ) d65
+          d66 = pre (Typed.pass T17 T18 s16) (AtSlots.g-as-by U H A W E (λ ρ. Unit) _ 9 r41 (λ x. x) (Own.told-none U H A (G17 .slots)) λ ρ told. Repeat.whole-arr U H A W L.u8 66048 tt ρ)
+              d65
 
           d67 : Typed.Typed U H A C E (lives z0 T16) b50 Δ0 (at67 bs)
-          d67 = seq (Repeat.t-repeat U H A W E C L.u8 (Plain'.uint-lawful U H A W Y.w8) (Copies.cRf (Referent.fInt Y.w8) .copy U H A W) (Plain'.uint-makes U H A W Y.w8) 66048 _ 9
-              (Scalar.oInt Y.w8 0) (λ m. 0) (gone y12) tt refl λ m wa. (refl, Dec'.lit< tt)) d66
+          d67 = seq (Typed.pass T16 T17 s15) (Repeat.t-repeat U H A W E C L.u8 (Plain'.uint-lawful U H A W Y.w8) (Copies.cRf (Referent.fInt Y.w8) .copy U H A W) (Plain'.uint-makes U H A W
+              Y.w8) 66048 _ 9 (Scalar.oInt Y.w8 0) (λ m. 0) (gone y12) tt refl λ m wa. (refl, Dec'.lit< tt)) d66
 
           d68 : Typed.Typed U H A C E G15 b50 Δ0 (at68 bs)
-          d68 = pre (AtSlots.g-as-by U H A W E (λ ρ. Unit) _ 8 r40 (λ x. x) (Own.told-none U H A (G15 .slots)) λ ρ told. Repeat.whole-arr U H A W L.u64 6912 tt ρ) d67
+          d68 = pre (Typed.pass T15 T16 s14) (AtSlots.g-as-by U H A W E (λ ρ. Unit) _ 8 r40 (λ x. x) (Own.told-none U H A (G15 .slots)) λ ρ told. Repeat.whole-arr U H A W L.u64 6912 tt ρ)
+              d67
 
           d69 : Typed.Typed U H A C E (lives z0 T14) b51 Δ0 (at69 bs)
-          d69 = seq (Repeat.t-repeat U H A W E C L.u64 (Plain'.uint-lawful U H A W Y.w64) (Copies.cRf (Referent.fInt Y.w64) .copy U H A W) (Plain'.uint-makes U H A W Y.w64) 6912 _ 8
-              (Scalar.oInt Y.w64 0) (λ m. 0) (gone y11) tt refl λ m wa. (refl, Dec'.lit< tt)) d68
+          d69 = seq (Typed.pass T14 T15 s13) (Repeat.t-repeat U H A W E C L.u64 (Plain'.uint-lawful U H A W Y.w64) (Copies.cRf (Referent.fInt Y.w64) .copy U H A W) (Plain'.uint-makes U H A W
+              Y.w64) 6912 _ 8 (Scalar.oInt Y.w64 0) (λ m. 0) (gone y11) tt refl λ m wa. (refl, Dec'.lit< tt)) d68
 
           d70 : Typed.Typed U H A C E G13 b51 Δ0 (at70 bs)
-          d70 = pre (AtSlots.g-as-by U H A W E (λ ρ. Unit) _ 7 r45 (λ x. x) (Own.told-none U H A (G13 .slots)) λ ρ told. Repeat.whole-arr U H A W L.u64 512 tt ρ) d69
+          d70 = pre (Typed.pass T13 T14 s12) (AtSlots.g-as-by U H A W E (λ ρ. Unit) _ 7 r45 (λ x. x) (Own.told-none U H A (G13 .slots)) λ ρ told. Repeat.whole-arr U H A W L.u64 512 tt ρ) d69
 
           d71 : Typed.Typed U H A C E (lives z0 T12) b52 Δ0 (at71 bs)
-          d71 = seq (Repeat.t-repeat U H A W E C L.u64 (Plain'.uint-lawful U H A W Y.w64) (Copies.cRf (Referent.fInt Y.w64) .copy U H A W) (Plain'.uint-makes U H A W Y.w64) 512 _ 7
-              (Scalar.oInt Y.w64 0) (λ m. 0) (gone y14) tt refl λ m wa. (refl, Dec'.lit< tt)) d70
+          d71 = seq (Typed.pass T12 T13 s11) (Repeat.t-repeat U H A W E C L.u64 (Plain'.uint-lawful U H A W Y.w64) (Copies.cRf (Referent.fInt Y.w64) .copy U H A W) (Plain'.uint-makes U H A W
+              Y.w64) 512 _ 7 (Scalar.oInt Y.w64 0) (λ m. 0) (gone y14) tt refl λ m wa. (refl, Dec'.lit< tt)) d70
 
           d72 : Typed.Typed U H A C E G11 b52 Δ0 (at72 bs)
-          d72 = pre (AtSlots.g-as-by U H A W E (λ ρ. Unit) _ 6 r39 (λ x. x) (Own.told-none U H A (G11 .slots)) λ ρ told. Repeat.whole-arr U H A W L.u8 65535 tt ρ) d71
+          d72 = pre (Typed.pass T11 T12 s10) (AtSlots.g-as-by U H A W E (λ ρ. Unit) _ 6 r39 (λ x. x) (Own.told-none U H A (G11 .slots)) λ ρ told. Repeat.whole-arr U H A W L.u8 65535 tt ρ)
+              d71
 
-          d73 : Typed.Typed U H A C E (on 5 r47 G8) b53 Δ0 (at73 bs)
-          d73 = seq (Repeat.t-repeat U H A W E C L.u8 (Plain'.uint-lawful U H A W Y.w8) (Copies.cRf (Referent.fInt Y.w8) .copy U H A W) (Plain'.uint-makes U H A W Y.w8) 65535 _ 6
-              (Scalar.oInt Y.w8 0) (λ m. 0) (gone y10) tt refl λ m wa. (refl, Dec'.lit< tt)) d72
+          d73 : Typed.Typed U H A C E (on 5 r47 G9) b53 Δ0 (at73 bs)
+          d73 = seq (Typed.pass T10 T11 s9) (Repeat.t-repeat U H A W E C L.u8 (Plain'.uint-lawful U H A W Y.w8) (Copies.cRf (Referent.fInt Y.w8) .copy U H A W) (Plain'.uint-makes U H A W
+              Y.w8) 65535 _ 6 (Scalar.oInt Y.w8 0) (λ m. 0) (gone y10) tt refl λ m wa. (refl, Dec'.lit< tt)) d72
 
           d74 : Typed.Typed U H A C E G9 b53 Δ0 (at74 bs)
-          d74 = pre (AtSlots.g-as-by U H A W E (λ ρ. Unit) _ 5 r47 (λ x. x) (Own.told-none U H A (G9 .slots)) λ ρ told. Repeat.whole-arr U H A W L.u8 2 tt ρ) d73
+          d74 = pre (Typed.pass T9 T10 s8) (AtSlots.g-as-by U H A W E (λ ρ. Unit) _ 5 r47 (λ x. x) (Own.told-none U H A (G9 .slots)) λ ρ told. Repeat.whole-arr U H A W L.u8 2 tt ρ) d73
 
-          d75 : Typed.Typed U H A C E G8 b54 Δ0 (at75 bs)
-          d75 = seq (Repeat.t-repeat U H A W E C L.u8 (Plain'.uint-lawful U H A W Y.w8) (Copies.cRf (Referent.fInt Y.w8) .copy U H A W) (Plain'.uint-makes U H A W Y.w8) 2 _ 5 (Scalar.oInt
-              Y.w8 0) (λ m. 0) (gone y15) tt refl λ m wa. (refl, Dec'.lit< tt)) d74
+          d75 : Typed.Typed U H A C E (lives z0 T8) b54 Δ0 (at75 bs)
+          d75 = seq (Typed.pass T8 T9 s7) (Repeat.t-repeat U H A W E C L.u8 (Plain'.uint-lawful U H A W Y.w8) (Copies.cRf (Referent.fInt Y.w8) .copy U H A W) (Plain'.uint-makes U H A W Y.w8)
+              2 _ 5 (Scalar.oInt Y.w8 0) (λ m. 0) (gone y15) tt refl λ m wa. (refl, Dec'.lit< tt)) d74
 
           d76 : Typed.Typed U H A C E G7 b54 Δ0 (at76 bs)
-          d76 = pre (AtSlots.g-as-by U H A W E (λ ρ. Unit) _ 4 r44 (λ x. x) (Own.told-none U H A (G7 .slots)) λ ρ told. Repeat.whole-arr U H A W L.u64 928 tt ρ) d75
+          d76 = pre (Typed.pass T7 T8 s6) (AtSlots.g-as-by U H A W E (λ ρ. Unit) _ 4 r44 (λ x. x) (Own.told-none U H A (G7 .slots)) λ ρ told. Repeat.whole-arr U H A W L.u64 928 tt ρ) d75
 
           d77 : Typed.Typed U H A C E (lives z0 T6) b55 Δ0 (at77 bs)
-          d77 = seq (Repeat.t-repeat U H A W E C L.u64 (Plain'.uint-lawful U H A W Y.w64) (Copies.cRf (Referent.fInt Y.w64) .copy U H A W) (Plain'.uint-makes U H A W Y.w64) 928 _ 4
-              (Scalar.oInt Y.w64 0) (λ m. 0) (gone y13) tt refl λ m wa. (refl, Dec'.lit< tt)) d76
+          d77 = seq (Typed.pass T6 T7 s5) (Repeat.t-repeat U H A W E C L.u64 (Plain'.uint-lawful U H A W Y.w64) (Copies.cRf (Referent.fInt Y.w64) .copy U H A W) (Plain'.uint-makes U H A W
+              Y.w64) 928 _ 4 (Scalar.oInt Y.w64 0) (λ m. 0) (gone y13) tt refl λ m wa. (refl, Dec'.lit< tt)) d76
 
           d78 : Typed.Typed U H A C E (lives z0 T5) b55 Δ0 (at78 bs)
-          d78 = pre (room 2 S.ty (S.room U H A W)) d77
+          d78 = pre (Typed.pass T5 T6 s4) (room 2 S.ty (S.room U H A W)) d77
 
           d79 : Typed.Typed U H A C E G4 b55 Δ0 (at79 bs)
-          d79 = pre (AtSlots.g-as-by U H A W E (λ ρ. Unit) _ 3 r43 (λ x. x) (Own.told-none U H A (G4 .slots)) λ ρ told. Repeat.whole-arr U H A W S.row 256 tt ρ) d78
+          d79 = pre (Typed.pass T4 T5 s3) (AtSlots.g-as-by U H A W E (λ ρ. Unit) _ 3 r43 (λ x. x) (Own.told-none U H A (G4 .slots)) λ ρ told. Repeat.whole-arr U H A W S.row 256 tt ρ) d78
 
           d80 : Typed.Typed U H A C E G3 b56 Δ0 (at80 bs)
-          d80 = seq (Repeat.t-repeat-by U H A W E C S.row (S.lawful U H A W) (S.copies .copy U H A W) 256 _ 3 (Scalar.oAt 2 S.ty λ x. Steps.only (S.copies .vals x)) (λ m. m .1 .1 .0) (λ ρ.
-              Unit) (gone y17) (S.reads U H A W, refl) refl (Own.told-none U H A (G3 .slots)) λ ρ m pf wa. Gives.elem-local U H A W E ρ S.row (λ x. Steps.only (S.copies .vals x)) (S.copies
-              .tells) (Row.out 3 (G3 .locals)) m (λ ρ. Unit) pf 2 S.ty (λ x. x) (Yields.yields-copy U H A W (λ ρ. Unit) S.row refl (S.copies .copy U H A W) S.here (λ x. x) (λ x. x) (λ ρ
-              told. S.in-mem U H A W ρ) λ ρ told. S.of-mem U H A W ρ)) d79
+          d80 = seq (Typed.pass T3 T4 s2) (Repeat.t-repeat-by U H A W E C S.row (S.lawful U H A W) (S.copies .copy U H A W) 256 _ 3 (Scalar.oAt 2 S.ty λ x. Steps.only (S.copies .vals x)) (λ
+              m. m .1 .1 .0) (λ ρ. Unit) (gone y17) (S.reads U H A W, refl) refl (Own.told-none U H A (G3 .slots)) λ ρ m pf wa. Gives.elem-local U H A W E ρ S.row (λ x. Steps.only (S.copies
+              .vals x)) (S.copies .tells) (Row.out 3 (G3 .locals)) m (λ ρ. Unit) pf 2 S.ty (λ x. x) (Yields.yields-copy U H A W (λ ρ. Unit) S.row refl (S.copies .copy U H A W) S.here (λ x.
+              x) (λ x. x) (λ ρ told. S.in-mem U H A W ρ) λ ρ told. S.of-mem U H A W ρ)) d79
 
           d81 : Typed.Typed U H A C E (lives z0 T2) b57 Δ0 (at81 bs)
-          d81 = seq (Plain.t-call-plain U H A W C 0 ps·0 r·1 (cl .2) (cl .3) "session_main::empty_record" (known .1) E (λ pos β. β) _ tt 2 [] (Call.sub-id U H A W _) tt (gone S.ty) tt refl)
-              d80
+          d81 = seq (Typed.both s1) (Plain.t-call-plain U H A W C 0 ps·0 r·1 (cl .2) (cl .3) "session_main::empty_record" (known .1) E (λ pos β. β) _ tt 2 [] (Call.sub-id U H A W _) tt (gone
+              S.ty) tt refl) d80
 
           d82 : Typed.Typed U H A C E (lives z0 T0) b58 Δ0 (at82 bs)
-          d82 = seq (Plain.t-call-plain U H A W C 0 ps·0 r·0 (cl .0) (cl .1) "session_main::begin" (known .0) E (λ pos β. β) _ tt 1 [] (Call.sub-id U H A W _) tt (gone Begun′.mir) tt refl)
-              d81
+          d82 = seq (Typed.both s0) (Plain.t-call-plain U H A W C 0 ps·0 r·0 (cl .0) (cl .1) "session_main::begin" (known .0) E (λ pos β. β) _ tt 1 [] (Call.sub-id U H A W _) tt (gone
+              Begun′.mir) tt refl) d81
 
           pub typed : Typed.Typed U H A C E (Function.Γin 0 ps r xs m κs qs) b58 (Function.Δret 0 ps r xs m κs qs) (Φ bs)
           typed = d82

@@ -381,6 +381,40 @@ t0 = (0, r50) ∷ (1, r44) ∷ (2, r6) ∷ (3, r35) ∷ (4, r25) ∷ (5, r26) �
 abbrev t1 : List.List Row.Entry
 t1 = (16, r27) ∷ (17, L.gbool) ∷ (18, r21) ∷ (19, r42) ∷ (20, r38) ∷ (21, r39) ∷ (22, r28) ∷ (23, r22) ∷ (24, r19) ∷ (25, r20) ∷ (26, r39) ∷ (27, r28) ∷ (28, r36) ∷ (29, r23) ∷ []
 
+abbrev t5 : List.List Row.Entry
+t5 = (0, r50) ∷ (1, r44) ∷ (2, r6) ∷ (3, r35) ∷ (4, r16) ∷ (5, r17) ∷ (6, r7) ∷ (7, r4) ∷ (8, r5) ∷ (9, L.hbool) ∷ (10, r49) ∷ (11, L.g64) ∷ (12, r47) ∷ (13, r37) ∷ (14, r33) ∷ (15, r30) ∷
+    []
+
+abbrev t8 : List.List Row.Entry
+t8 = (0, r50) ∷ (1, r44) ∷ (2, r6) ∷ (3, r35) ∷ (4, r16) ∷ (5, r17) ∷ (6, r7) ∷ (7, r4) ∷ (8, r5) ∷ (9, L.hbool) ∷ (10, r45) ∷ (11, L.g64) ∷ (12, r47) ∷ (13, r37) ∷ (14, r34) ∷ (15, r37) ∷
+    []
+
+abbrev t9 : List.List Row.Entry
+t9 = (16, r34) ∷ (17, L.gbool) ∷ (18, r21) ∷ (19, r42) ∷ (20, r38) ∷ (21, r39) ∷ (22, r28) ∷ (23, r22) ∷ (24, r19) ∷ (25, r20) ∷ (26, r39) ∷ (27, r28) ∷ (28, r36) ∷ (29, r23) ∷ []
+
+abbrev t20 : List.List Row.Entry
+t20 = (0, r50) ∷ (1, r44) ∷ (2, r3) ∷ (3, r18) ∷ (4, r25) ∷ (5, r26) ∷ (6, r7) ∷ (7, r4) ∷ (8, r5) ∷ (9, L.hbool) ∷ (10, r49) ∷ (11, L.h64) ∷ (12, r47) ∷ (13, r37) ∷ (14, r27) ∷ (15, r37) ∷
+    []
+
+abbrev t21 : List.List Row.Entry
+t21 = (16, r27) ∷ (17, L.gbool) ∷ (18, r12) ∷ (19, Relend.msptr S.row y17 10) ∷ (20, r38) ∷ (21, r39) ∷ (22, r28) ∷ (23, r22) ∷ (24, r19) ∷ (25, r20) ∷ (26, r39) ∷ (27, r28) ∷ (28, r36) ∷
+    (29, r23) ∷ []
+
+abbrev t23 : List.List Row.Entry
+t23 = (0, r50) ∷ (1, r44) ∷ (2, r3) ∷ (3, r18) ∷ (4, r25) ∷ (5, r15) ∷ (6, r7) ∷ (7, r4) ∷ (8, r5) ∷ (9, L.hbool) ∷ (10, r49) ∷ (11, L.h64) ∷ (12, r47) ∷ (13, r37) ∷ (14, r27) ∷ (15, r37) ∷
+    []
+
+abbrev t24 : List.List Row.Entry
+t24 = (16, r27) ∷ (17, L.gbool) ∷ (18, r12) ∷ (19, r42) ∷ (20, r40) ∷ (21, Relend.ssptr L.u8 y15 11) ∷ (22, r28) ∷ (23, r22) ∷ (24, r19) ∷ (25, r20) ∷ (26, r39) ∷ (27, r28) ∷ (28, r36) ∷
+    (29, r23) ∷ []
+
+abbrev t26 : List.List Row.Entry
+t26 = (0, r50) ∷ (1, r44) ∷ (2, r3) ∷ (3, r18) ∷ (4, r25) ∷ (5, r15) ∷ (6, r2) ∷ (7, r4) ∷ (8, r5) ∷ (9, L.hbool) ∷ (10, r49) ∷ (11, L.h64) ∷ (12, r47) ∷ (13, r37) ∷ (14, r27) ∷ (15, r37) ∷
+    []
+
+abbrev t27 : List.List Row.Entry
+t27 = (16, r27) ∷ (17, L.gbool) ∷ (18, r12) ∷ (19, r42) ∷ (20, r40) ∷ (21, r39) ∷ (22, r31) ∷ (23, r9) ∷ (24, r19) ∷ (25, r20) ∷ (26, r39) ∷ (27, r28) ∷ (28, r36) ∷ (29, r23) ∷ []
+
 abbrev t30 : List.List Row.Entry
 t30 = (0, r50) ∷ (1, r44) ∷ (2, r3) ∷ (3, r18) ∷ (4, r25) ∷ (5, r15) ∷ (6, r2) ∷ (7, r0) ∷ (8, r1) ∷ (9, L.hbool) ∷ (10, r49) ∷ (11, L.h64) ∷ (12, r47) ∷ (13, r37) ∷ (14, r27) ∷ (15, r37) ∷
     []
@@ -389,11 +423,54 @@ abbrev t31 : List.List Row.Entry
 t31 = (16, r27) ∷ (17, L.gbool) ∷ (18, r12) ∷ (19, r42) ∷ (20, r40) ∷ (21, r39) ∷ (22, r31) ∷ (23, r9) ∷ (24, r8) ∷ (25, Rows.mref (Array.Array L.u8 66048) y4 14) ∷ (26, r39) ∷ (27, r28) ∷
     (28, r36) ∷ (29, r23) ∷ []
 
+abbrev t32 : List.List Row.Entry
+t32 = (0, r50) ∷ (1, r44) ∷ (2, r3) ∷ (3, r18) ∷ (4, r25) ∷ (5, r15) ∷ (6, r2) ∷ (7, r0) ∷ (8, r1) ∷ (9, L.hbool) ∷ (10, r49) ∷ (11, L.h64) ∷ (12, r43) ∷ (13, r37) ∷ (14, r27) ∷ (15, r37) ∷
+    []
+
+abbrev t33 : List.List Row.Entry
+t33 = (16, r27) ∷ (17, L.gbool) ∷ (18, r13) ∷ (19, r42) ∷ (20, r41) ∷ (21, r39) ∷ (22, r31) ∷ (23, r14) ∷ (24, r10) ∷ (25, r11) ∷ (26, r39) ∷ (27, r28) ∷ (28, r36) ∷ (29, r23) ∷ []
+
+abbrev t36 : List.List Row.Entry
+t36 = (0, r50) ∷ (1, r48) ∷ (2, r6) ∷ (3, r18) ∷ (4, r25) ∷ (5, r15) ∷ (6, r2) ∷ (7, r0) ∷ (8, r1) ∷ (9, L.hbool) ∷ (10, r49) ∷ (11, L.h64) ∷ (12, r43) ∷ (13, r37) ∷ (14, r27) ∷ (15, r37) ∷
+    []
+
 abbrev t37 : List.List Row.Entry
 t37 = (16, r27) ∷ (17, L.gbool) ∷ (18, r21) ∷ (19, r42) ∷ (20, r41) ∷ (21, r39) ∷ (22, r28) ∷ (23, r14) ∷ (24, r10) ∷ (25, r11) ∷ (26, r39) ∷ (27, r28) ∷ (28, r36) ∷ (29, r23) ∷ []
 
+abbrev t41 : List.List Row.Entry
+t41 = (0, r50) ∷ (1, r48) ∷ (2, r6) ∷ (3, r35) ∷ (4, r25) ∷ (5, r26) ∷ (6, r7) ∷ (7, r0) ∷ (8, r1) ∷ (9, L.hbool) ∷ (10, r49) ∷ (11, L.h64) ∷ (12, r43) ∷ (13, r37) ∷ (14, r27) ∷ (15, r37) ∷
+    []
+
+abbrev t42 : List.List Row.Entry
+t42 = (16, r27) ∷ (17, L.gbool) ∷ (18, r21) ∷ (19, r42) ∷ (20, r38) ∷ (21, r39) ∷ (22, r28) ∷ (23, r22) ∷ (24, r10) ∷ (25, r11) ∷ (26, r39) ∷ (27, r28) ∷ (28, r36) ∷ (29, r23) ∷ []
+
+abbrev t46 : List.List Row.Entry
+t46 = (0, r50) ∷ (1, r48) ∷ (2, r6) ∷ (3, r35) ∷ (4, r25) ∷ (5, r26) ∷ (6, r7) ∷ (7, r4) ∷ (8, Frozen.held (Frozen.fz-open Y.erased 6 [] Row.off (LendAt.fz-shr (Array.Array L.u8 66048) 15)))
+    ∷ (9, L.hbool) ∷ (10, r49) ∷ (11, L.h64) ∷ (12, r43) ∷ (13, r37) ∷ (14, r27) ∷ (15, r37) ∷ []
+
+abbrev t47 : List.List Row.Entry
+t47 = (16, r27) ∷ (17, L.gbool) ∷ (18, r21) ∷ (19, r42) ∷ (20, r38) ∷ (21, r39) ∷ (22, r28) ∷ (23, r22) ∷ (24, r19) ∷ (25, r20) ∷ (26, Rows.sref (Array.Array L.u8 66048) y15 15) ∷ (27, r28)
+    ∷ (28, r36) ∷ (29, r23) ∷ []
+
 abbrev t49 : List.List Row.Entry
 t49 = (16, r27) ∷ (17, L.gbool) ∷ (18, r21) ∷ (19, r42) ∷ (20, r38) ∷ (21, r39) ∷ (22, r28) ∷ (23, r22) ∷ (24, r19) ∷ (25, r20) ∷ (26, r39) ∷ (27, r32) ∷ (28, r36) ∷ (29, r23) ∷ []
+
+abbrev t50 : List.List Row.Entry
+t50 = (0, r50) ∷ (1, r48) ∷ (2, r6) ∷ (3, r35) ∷ (4, r25) ∷ (5, r26) ∷ (6, r7) ∷ (7, Frozen.held (Frozen.fz-open Y.erased 5 [] Row.off (LendAt.fz-shr (Array.Array L.u64 6912) 16))) ∷
+    (8, Frozen.held (Frozen.fz-open Y.erased 6 [] Row.off (LendAt.fz-shr (Array.Array L.u8 66048) 15))) ∷ (9, L.hbool) ∷ (10, r49) ∷ (11, L.h64) ∷ (12, r43) ∷ (13, r37) ∷ (14, r27) ∷
+    (15, r37) ∷ []
+
+abbrev t51 : List.List Row.Entry
+t51 = (16, r27) ∷ (17, L.gbool) ∷ (18, r21) ∷ (19, r42) ∷ (20, r38) ∷ (21, r39) ∷ (22, r28) ∷ (23, r22) ∷ (24, r19) ∷ (25, r20) ∷ (26, r39) ∷ (27, r32) ∷
+    (28, Rows.sref (Array.Array L.u64 6912) y13 16) ∷ (29, r23) ∷ []
+
+abbrev t54 : List.List Row.Entry
+t54 = (0, r46) ∷ (1, r48) ∷ (2, r6) ∷ (3, r35) ∷ (4, r25) ∷ (5, r26) ∷ (6, r7) ∷ (7, Frozen.held (Frozen.fz-open Y.erased 5 [] Row.off (LendAt.fz-shr (Array.Array L.u64 6912) 16))) ∷
+    (8, Frozen.held (Frozen.fz-open Y.erased 6 [] Row.off (LendAt.fz-shr (Array.Array L.u8 66048) 15))) ∷ (9, L.hbool) ∷ (10, r49) ∷ (11, L.h64) ∷ (12, r43) ∷ (13, r37) ∷ (14, r27) ∷
+    (15, r37) ∷ []
+
+abbrev t55 : List.List Row.Entry
+t55 = (16, r27) ∷ (17, L.gbool) ∷ (18, r21) ∷ (19, r42) ∷ (20, r38) ∷ (21, r39) ∷ (22, r28) ∷ (23, r22) ∷ (24, r19) ∷ (25, r20) ∷ (26, r39) ∷ (27, r28) ∷ (28, r36) ∷ (29, r24) ∷ []
 
 abbrev on : Nat.ℕ → Row.Row → Row.Cx → Row.Cx
 on n r Γ = record { locals = Row.setRow n (n, r) (Γ .locals); slots = Γ .slots }
@@ -417,13 +494,13 @@ abbrev T6 : Row.Cx
 T6 = on 14 r33 (on 4 r16 T0)
 
 abbrev T8 : Row.Cx
-T8 = on 15 r30 (on 5 r17 T6)
+T8 = record { locals = List._++_ t5 t1; slots = [] }
 
 abbrev T9 : Row.Cx
-T9 = on 16 (Mut.mslice L.u8 y14 8) (on 5 r17 T6)
+T9 = on 16 (Mut.mslice L.u8 y14 8) (on 15 r37 T8)
 
 abbrev T10 : Row.Cx
-T10 = on 16 r34 (on 14 r34 (on 10 r45 T9))
+T10 = record { locals = List._++_ t8 t9; slots = [] }
 
 abbrev T12 : Row.Cx
 T12 = on 14 r27 (on 4 r25 T10)
@@ -441,7 +518,7 @@ abbrev T24 : Row.Cx
 T24 = on 1 r48 T23
 
 abbrev T25 : Row.Cx
-T25 = on 10 r49 T24
+T25 = on 1 r48 (on 0 r46 T0)
 
 abbrev T28 : Row.Cx
 T28 = on 11 L.h64 T16
@@ -450,31 +527,31 @@ abbrev T29 : Row.Cx
 T29 = on 10 r49 T28
 
 abbrev T31 : Row.Cx
-T31 = on 18 r12 (on 2 r3 T29)
+T31 = on 18 r12 (on 11 L.h64 (on 2 r3 T0))
 
 abbrev T33 : Row.Cx
-T33 = on 19 (Relend.msptr S.row y17 10) (on 3 r18 T31)
+T33 = record { locals = List._++_ t20 t21; slots = [] }
 
 abbrev T34 : Row.Cx
-T34 = on 20 r40 (on 3 r18 T31)
+T34 = on 20 r40 (on 19 r42 T33)
 
 abbrev T36 : Row.Cx
-T36 = on 21 (Relend.ssptr L.u8 y15 11) (on 5 r15 T34)
+T36 = record { locals = List._++_ t23 t24; slots = [] }
 
 abbrev T37 : Row.Cx
-T37 = on 22 r31 (on 5 r15 T34)
+T37 = on 22 r31 (on 21 r39 T36)
 
 abbrev T39 : Row.Cx
-T39 = on 23 r9 (on 6 r2 T37)
+T39 = record { locals = List._++_ t26 t27; slots = [] }
 
 abbrev T41 : Row.Cx
-T41 = on 24 r8 (on 23 r9 (on 22 r31 (on 20 r40 (on 18 r12 (on 11 L.h64 (on 7 r0 (on 6 r2 (on 5 r15 (on 3 r18 (on 2 r3 T0))))))))))
+T41 = on 24 r8 (on 7 r0 T39)
 
 abbrev T43 : Row.Cx
 T43 = record { locals = List._++_ t30 t31; slots = [] }
 
 abbrev T44 : Row.Cx
-T44 = on 25 r11 (on 24 r10 (on 23 r14 (on 20 r41 (on 18 r13 (on 12 r43 T43)))))
+T44 = record { locals = List._++_ t32 t33; slots = [] }
 
 abbrev T45 : Row.Cx
 T45 = on 22 r28 T44
@@ -483,25 +560,25 @@ abbrev T46 : Row.Cx
 T46 = on 1 r48 T45
 
 abbrev T48 : Row.Cx
-T48 = on 18 r21 (on 2 r6 T46)
+T48 = record { locals = List._++_ t36 t37; slots = [] }
 
 abbrev T51 : Row.Cx
 T51 = on 20 r38 (on 3 r35 T48)
 
 abbrev T54 : Row.Cx
-T54 = on 25 r11 (on 24 r10 (on 23 r14 (on 12 r43 (on 8 r1 (on 7 r0 (on 6 r2 (on 1 r48 T29)))))))
+T54 = on 5 r26 T51
 
 abbrev T57 : Row.Cx
-T57 = on 25 r11 (on 24 r10 (on 12 r43 (on 8 r1 (on 7 r0 (on 1 r48 T29)))))
+T57 = record { locals = List._++_ t41 t42; slots = [] }
 
 abbrev T60 : Row.Cx
 T60 = on 24 r19 (on 7 r4 T57)
 
 abbrev T63 : Row.Cx
-T63 = on 12 r43 (on 1 r48 T29)
+T63 = on 12 r43 (on 11 L.h64 (on 1 r48 T0))
 
 abbrev T66 : Row.Cx
-T66 = on 26 (Rows.sref (Array.Array L.u8 66048) y15 15) (on 8 (Frozen.held (Frozen.fz-open Y.erased 6 [] Row.off (LendAt.fz-shr (Array.Array L.u8 66048) 15))) T63)
+T66 = record { locals = List._++_ t46 t47; slots = [] }
 
 abbrev T67 : Row.Cx
 T67 = on 26 (Relend.ssptr L.u8 y15 15) T66
@@ -510,25 +587,25 @@ abbrev T68 : Row.Cx
 T68 = on 27 r32 (on 26 r39 T66)
 
 abbrev T70 : Row.Cx
-T70 = on 28 (Rows.sref (Array.Array L.u64 6912) y13 16) (on 7 (Frozen.held (Frozen.fz-open Y.erased 5 [] Row.off (LendAt.fz-shr (Array.Array L.u64 6912) 16))) T68)
+T70 = record { locals = List._++_ t50 t51; slots = [] }
 
 abbrev T71 : Row.Cx
 T71 = on 28 (Relend.ssptr L.u64 y13 16) T70
 
 abbrev T72 : Row.Cx
-T72 = on 29 r24 (on 7 (Frozen.held (Frozen.fz-open Y.erased 5 [] Row.off (LendAt.fz-shr (Array.Array L.u64 6912) 16))) T68)
+T72 = on 29 r24 (on 28 r36 T70)
 
 abbrev T73 : Row.Cx
 T73 = on 0 r46 T72
 
 abbrev T74 : Row.Cx
-T74 = on 29 r24 (on 26 r39 (on 7 (Frozen.held (Frozen.fz-open Y.erased 5 [] Row.off (LendAt.fz-shr (Array.Array L.u64 6912) 16))) (on 0 r46 T66)))
+T74 = record { locals = List._++_ t54 t55; slots = [] }
 
 abbrev T75 : Row.Cx
 T75 = on 29 r23 T74
 
 abbrev T76 : Row.Cx
-T76 = on 26 r39 (on 11 L.g64 (on 7 (Frozen.held (Frozen.fz-open Y.erased 5 [] Row.off (LendAt.fz-shr (Array.Array L.u64 6912) 16))) (on 0 r46 T66)))
+T76 = on 11 L.g64 T75
 
 abbrev T77 : Row.Cx
 T77 = on 12 r47 T76
@@ -795,22 +872,33 @@ module _ (cl : Claims) where
       abbrev z0 : List.List Row.Life
       z0 = l0 ∷ l1 ∷ l2 ∷ l3 ∷ l4 ∷ l5 ∷ l6 ∷ Row.off ∷ Row.off ∷ Row.off ∷ Row.off ∷ Row.off ∷ Row.off ∷ Row.off ∷ Row.off ∷ Row.off ∷ Row.off ∷ []
 
+      abbrev g32 : List.List Row.Entry
+      g32 = (0, r50) ∷ (1, r44) ∷ (2, Rows.mref-owed (Array.Array L.u64 928) y2 0 9 l0) ∷ (3, Relend.mslice-owed S.row y16 1 10 l1) ∷ (4, r25) ∷ (5, Reshare.mslice-owedSᵖ L.u8 y12 3 11 l3) ∷
+          (6, Rows.mref-owed (Array.Array L.u64 512) y3 4 12 l4) ∷ (7, Rows.mref-owed (Array.Array L.u64 6912) y0 5 13 l5) ∷ (8, Rows.mref-owed (Array.Array L.u8 66048) y1 6 14 l6) ∷
+          (9, L.hbool) ∷ (10, r49) ∷ (11, L.h64) ∷ (12, r43) ∷ (13, r37) ∷ (14, r27) ∷ (15, r37) ∷ []
+
       abbrev g36 : List.List Row.Entry
       g36 = (0, r50) ∷ (1, r48) ∷ (2, r6) ∷ (3, Relend.mslice-owed S.row y16 1 10 l1) ∷ (4, r25) ∷ (5, Reshare.mslice-owedSᵖ L.u8 y12 3 11 l3) ∷
           (6, Rows.mref-owed (Array.Array L.u64 512) y3 4 12 l4) ∷ (7, Rows.mref-owed (Array.Array L.u64 6912) y0 5 13 l5) ∷ (8, Rows.mref-owed (Array.Array L.u8 66048) y1 6 14 l6) ∷
           (9, L.hbool) ∷ (10, r49) ∷ (11, L.h64) ∷ (12, r43) ∷ (13, r37) ∷ (14, r27) ∷ (15, r37) ∷ []
+
+      abbrev g41 : List.List Row.Entry
+      g41 = (0, r50) ∷ (1, r48) ∷ (2, r6) ∷ (3, r35) ∷ (4, r25) ∷ (5, r26) ∷ (6, r7) ∷ (7, Rows.mref-owed (Array.Array L.u64 6912) y0 5 13 l5) ∷
+          (8, Rows.mref-owed (Array.Array L.u8 66048) y1 6 14 l6) ∷ (9, L.hbool) ∷ (10, r49) ∷ (11, L.h64) ∷ (12, r43) ∷ (13, r37) ∷ (14, r27) ∷ (15, r37) ∷ []
 
       abbrev g46 : List.List Row.Entry
       g46 = (0, r50) ∷ (1, r48) ∷ (2, r6) ∷ (3, r35) ∷ (4, r25) ∷ (5, r26) ∷ (6, r7) ∷ (7, r4) ∷
           (8, Frozen.held (Frozen.fz-open Y.erased 6 (κs .1 .1 .1 .1 .1 .1 .0) l6 (LendAt.fz-shr (Array.Array L.u8 66048) 15))) ∷ (9, L.hbool) ∷ (10, r49) ∷ (11, L.h64) ∷ (12, r43) ∷
           (13, r37) ∷ (14, r27) ∷ (15, r37) ∷ []
 
+      abbrev g57 : List.List Row.Entry
+      g57 = (0, r46) ∷ (1, r48) ∷ (2, r6) ∷ (3, r35) ∷ (4, r25) ∷ (5, r26) ∷ (6, r7) ∷
+          (7, Frozen.held (Frozen.fz-open Y.erased 5 (κs .1 .1 .1 .1 .1 .0) l5 (LendAt.fz-shr (Array.Array L.u64 6912) 16))) ∷
+          (8, Frozen.held (Frozen.fz-open Y.erased 6 (κs .1 .1 .1 .1 .1 .1 .0) l6 (LendAt.fz-shr (Array.Array L.u8 66048) 15))) ∷ (9, L.hbool) ∷ (10, r49) ∷ (11, L.g64) ∷ (12, r47) ∷
+          (13, r37) ∷ (14, r27) ∷ (15, r37) ∷ []
+
       abbrev G0 : Row.Cx
       G0 = lives z0 T0
-
-      abbrev G10 : Row.Cx
-      G10 = lives (l0 ∷ l1 ∷ Row.off ∷ Row.off ∷ l4 ∷ l5 ∷ l6 ∷ Row.alive ∷ Row.alive ∷ Row.off ∷ Row.off ∷ Row.off ∷ Row.off ∷ Row.off ∷ Row.off ∷ Row.off ∷ Row.off ∷ []) (on 5
-          (Relend.mslice-owed L.u8 y12 3 8 l3) (on 4 (Relend.mslice-owed L.u8 y11 2 7 l2) T10))
 
       abbrev G18 : Row.Cx
       G18 = lives z0 T16
@@ -818,25 +906,16 @@ module _ (cl : Claims) where
       abbrev G20 : Row.Cx
       G20 = lives z0 T20
 
-      abbrev G28 : Row.Cx
-      G28 = lives z0 T28
-
-      abbrev G49 : Row.Cx
-      G49 = record
-          { locals = List._++_ g36 t37; slots = l0 ∷ Row.off ∷ l2 ∷ Row.off ∷ Row.off ∷ Row.off ∷ Row.off ∷ Row.off ∷ Row.off ∷ Row.off ∷ Row.alive ∷ Row.alive ∷ Row.alive ∷ Row.alive ∷ Row.alive ∷ Row.off ∷ Row.off ∷ [] }
-
       abbrev G65 : Row.Cx
-      G65 = life 15 Row.alive (on 12 r43 (on 10 r49 (on 1 r48 G28)))
+      G65 = life 15 Row.alive (on 12 r43 (on 11 L.h64 (on 1 r48 G0)))
 
       abbrev G69 : Row.Cx
       G69 = record
           { locals = List._++_ g46 t49; slots = l0 ∷ l1 ∷ l2 ∷ l3 ∷ l4 ∷ l5 ∷ Row.off ∷ Row.off ∷ Row.off ∷ Row.off ∷ Row.off ∷ Row.off ∷ Row.off ∷ Row.off ∷ Row.off ∷ Row.alive ∷ Row.alive ∷ [] }
 
-      abbrev G73 : Row.Cx
-      G73 = life 5 Row.off (on 29 r24 (on 7 (Frozen.held (Frozen.fz-open Y.erased 5 (κs .1 .1 .1 .1 .1 .0) l5 (LendAt.fz-shr (Array.Array L.u64 6912) 16))) (on 0 r46 G69)))
-
       abbrev G77 : Row.Cx
-      G77 = on 29 r23 (on 27 r28 (on 12 r47 (on 11 L.g64 G73)))
+      G77 = record
+          { locals = List._++_ g57 t1; slots = (l0 ∷ l1 ∷ l2 ∷ l3 ∷ l4 ∷ Row.off ∷ Row.off ∷ Row.off ∷ Row.off ∷ Row.off ∷ Row.off ∷ Row.off ∷ Row.off ∷ Row.off ∷ Row.off ∷ Row.alive ∷ Row.alive ∷ []) }
 
       abbrev G78 : Row.Cx
       G78 = life 15 Row.dead G77
@@ -859,13 +938,13 @@ module _ (cl : Claims) where
             (Rows.whole R) R (λ x. x) (λ x. x)
         copied R one c = Yields.yields-copy U H A W (λ ρ. Unit) R one c (Rows.whole R) (λ x. x) (λ x. x) (λ ρ told. Local.mem-whole U H A W R ρ) λ ρ told. Local.whole-mem U H A W R ρ
 
-        pre : {Γ Γ₁ : Row.Cx} {b : Y.Body} {Δ : Typed.Outs} {φ : Typed.Tf Γ Γ₁} {Φ : Typed.TF Γ₁ Δ} → Typed.Ghost U H A E Γ Γ₁ φ → Typed.Typed U H A C E Γ₁ b Δ Φ → Typed.Typed U H A C E Γ b
+        pre : {Γ Γ₁ : Row.Cx} {b : Y.Body} {Δ : Typed.Outs} {Φ : Typed.TF Γ₁ Δ} (φ : Typed.Tf Γ Γ₁) → Typed.Ghost U H A E Γ Γ₁ φ → Typed.Typed U H A C E Γ₁ b Δ Φ → Typed.Typed U H A C E Γ b
             Δ (λ Ψ. φ (Φ Ψ))
-        pre = Typed.g-pre U H A W C E _ _ _ _ _ _
+        pre φ = Typed.g-pre U H A W C E _ _ _ _ φ _
 
-        seq : {Γ Γ₁ : Row.Cx} {a b : Y.Body} {Δ : Typed.Outs} {φ : Typed.Tf Γ Γ₁} {Φ : Typed.TF Γ₁ Δ} → Typed.Stmt U H A C E Γ a Γ₁ φ → Typed.Typed U H A C E Γ₁ b Δ Φ → Typed.Typed U H A C E
+        seq : {Γ Γ₁ : Row.Cx} {a b : Y.Body} {Δ : Typed.Outs} {Φ : Typed.TF Γ₁ Δ} (φ : Typed.Tf Γ Γ₁) → Typed.Stmt U H A C E Γ a Γ₁ φ → Typed.Typed U H A C E Γ₁ b Δ Φ → Typed.Typed U H A C E
             Γ (Y.seq a b) Δ (λ Ψ. φ (Φ Ψ))
-        seq = Typed.s-seq U H A W C E _ _ _ _ _ _ _
+        seq φ = Typed.s-seq U H A W C E _ _ _ _ _ φ _
 
         room : {Γ : Row.Cx} (n : Nat.ℕ) (τ : Y.Ty) → Reads'.ToRoom U H A (Row.getRow n (Γ .locals) .1) τ → Typed.Ghost U H A E Γ (Scalar.After Γ n (Rows.any-gone τ)) (Typed.pass Γ
             (Scalar.After Γ n (Rows.any-gone τ)) (Scalar.n-room Γ n τ))
@@ -887,144 +966,154 @@ module _ (cl : Claims) where
         gone = Reads'.room-gone U H A
 
         d3 : Typed.Typed U H A C E (lives z0 T23) b7 Δ1 at3
-        d3 = pre (room 1 Session′.mir (Local.room-whole U H A W (Declared.row Session.the-type) Session′.mir refl)) (pre (room 10 Record′.mir (Local.room-whole U H A W (Declared.row
-            Record.the-type) Record′.mir refl)) (pre (room 9 Y.tyBool (Scalar.room-sc U H A W Row.sBool)) (Typed.t-return U H A W C E Δ1 tt)))
+        d3 = pre (Typed.pass T23 T24 s21) (room 1 Session′.mir (Local.room-whole U H A W (Declared.row Session.the-type) Session′.mir refl)) (pre (Typed.pass T24 T25 s22) (room 10
+            Record′.mir (Local.room-whole U H A W (Declared.row Record.the-type) Record′.mir refl)) (pre (Typed.pass T25 T1 s23) (room 9 Y.tyBool (Scalar.room-sc U H A W Row.sBool))
+            (Typed.t-return U H A W C E Δ1 tt)))
 
         d5 : Typed.Typed U H A C E G20 b8 Δ1 at5
-        d5 = pre (room 17 Y.tyBool (Scalar.room-sc U H A W Row.sBool)) (seq (Plain.t-call-plain U H A W C 0 ps·1 r·1 (cl .2) (cl .3) "session_main::stopped" (known .1) E (λ pos β. β) _
-            (record { pos = 1; st = []; d = 0; at = λ x. x }, (record { pos = 10; st = []; d = 0; at = λ x. x }, tt)) 0 [] (Call.sub-id U H A W _)
+        d5 = pre (Typed.pass T20 T16 s19) (room 17 Y.tyBool (Scalar.room-sc U H A W Row.sBool)) (seq (Typed.both s20) (Plain.t-call-plain U H A W C 0 ps·1 r·1 (cl .2) (cl .3)
+            "session_main::stopped" (known .1) E (λ pos β. β) _ (record { pos = 1; st = []; d = 0; at = λ x. x }, (record { pos = 10; st = []; d = 0; at = λ x. x }, tt)) 0 [] (Call.sub-id U
+            H A W _)
             ((copied (Declared.row Session.the-type) refl (Copies.cStruct Session.the-type Session′.the-laws Session′.the-copy .copy U H A W), refl), ((copied (Declared.row Record.the-type) refl (Copies.cStruct Record.the-type Record′.the-laws Record′.the-copy .copy U H A W), refl), tt))
             (gone After′.mir) tt refl) d3)
 
         d7 : Typed.Typed U H A C E G20 b9 Δ1 at7
-        d7 = pre (room 17 Y.tyBool (Scalar.room-sc U H A W Row.sBool)) (Typed.t-skip U H A W C E Δ1 tt)
+        d7 = pre (Typed.pass T20 T16 s19) (room 17 Y.tyBool (Scalar.room-sc U H A W Row.sBool)) (Typed.t-skip U H A W C E Δ1 tt)
 
         d8 : Typed.Typed U H A C E G20 b10 Δ1 at8
         d8 = Scalar.t-cond U H A W E C _ 17 (λ x. x) b8 b9 Δ1 at5 at7 (Scalar.reads-sc U H A W Row.sBool) refl d5 d7
 
         d16 : Typed.Typed U H A C E G77 b7 Δ0 at16
-        d16 = pre (end 15 refl) (pre (LendAt.g-way-back-shr U H A W E (Frozen.fz-open Y.erased 6 (κs .1 .1 .1 .1 .1 .1 .0) l6 (LendAt.fz-shr (Array.Array L.u8 66048) 15)) (LendAt.as-was-open
-            Y.erased 6 (κs .1 .1 .1 .1 .1 .1 .0) l6 (LendAt.fz-shr (Array.Array L.u8 66048) 15) (LendAt.as-was-shr (Array.Array L.u8 66048) 15)) _ 8 r5 (Row.setLife 6 l6 (G78 .slots)) (λ x.
-            x) (λ x. x) (as-is (Frozen.held (Frozen.fz-open Y.erased 6 (κs .1 .1 .1 .1 .1 .1 .0) l6 (LendAt.fz-shr (Array.Array L.u8 66048) 15)))) refl (WayLend.puts-open U H A Y.erased 6
-            (κs .1 .1 .1 .1 .1 .1 .0) l6 (LendAt.fz-shr (Array.Array L.u8 66048) 15) (G78 .slots) (G78 .slots) (Row.setLife 6 l6 (G78 .slots)) (LendAt.puts-none-shr U H A (Array.Array L.u8
-            66048) 15 (G78 .slots)) (Open.puts-whole U H A W 6 l6 (G78 .slots) refl)) λ ρ pins. Local.mref-mem U H A W Y.erased (κs .1 .1 .1 .1 .1 .1 .0) (Array.Array L.u8 66048) 6 y1 refl ρ
-            (pins .0)) (pre (forget 15 Row.dead refl) (pre (end 16 refl) (pre (LendAt.g-way-back-shr U H A W E (Frozen.fz-open Y.erased 5 (κs .1 .1 .1 .1 .1 .0) l5 (LendAt.fz-shr
-            (Array.Array L.u64 6912) 16)) (LendAt.as-was-open Y.erased 5 (κs .1 .1 .1 .1 .1 .0) l5 (LendAt.fz-shr (Array.Array L.u64 6912) 16) (LendAt.as-was-shr (Array.Array L.u64 6912)
-            16)) _ 7 r4 (Row.setLife 5 l5 (G81 .slots)) (λ x. x) (λ x. x) (as-is (Frozen.held (Frozen.fz-open Y.erased 5 (κs .1 .1 .1 .1 .1 .0) l5 (LendAt.fz-shr (Array.Array L.u64 6912)
-            16)))) refl (WayLend.puts-open U H A Y.erased 5 (κs .1 .1 .1 .1 .1 .0) l5 (LendAt.fz-shr (Array.Array L.u64 6912) 16) (G81 .slots) (G81 .slots) (Row.setLife 5 l5 (G81 .slots))
-            (LendAt.puts-none-shr U H A (Array.Array L.u64 6912) 16 (G81 .slots)) (Open.puts-whole U H A W 5 l5 (G81 .slots) refl)) λ ρ pins. Local.mref-mem U H A W Y.erased (κs .1 .1 .1 .1
-            .1 .0) (Array.Array L.u64 6912) 5 y0 refl ρ (pins .0)) (pre (forget 16 Row.dead refl) (pre (room 9 Y.tyBool (Scalar.room-sc U H A W Row.sBool)) (Typed.t-return U H A W C E Δ0
-            tt)))))))
+        d16 = pre (λ Ψ. Ψ) (end 15 refl) (pre (Typed.ask s76) (LendAt.g-way-back-shr U H A W E (Frozen.fz-open Y.erased 6 (κs .1 .1 .1 .1 .1 .1 .0) l6 (LendAt.fz-shr (Array.Array L.u8 66048)
+            15)) (LendAt.as-was-open Y.erased 6 (κs .1 .1 .1 .1 .1 .1 .0) l6 (LendAt.fz-shr (Array.Array L.u8 66048) 15) (LendAt.as-was-shr (Array.Array L.u8 66048) 15)) _ 8 r5 (Row.setLife
+            6 l6 (G78 .slots)) (λ x. x) (λ x. x) (as-is (Frozen.held (Frozen.fz-open Y.erased 6 (κs .1 .1 .1 .1 .1 .1 .0) l6 (LendAt.fz-shr (Array.Array L.u8 66048) 15)))) refl
+            (WayLend.puts-open U H A Y.erased 6 (κs .1 .1 .1 .1 .1 .1 .0) l6 (LendAt.fz-shr (Array.Array L.u8 66048) 15) (G78 .slots) (G78 .slots) (Row.setLife 6 l6 (G78 .slots))
+            (LendAt.puts-none-shr U H A (Array.Array L.u8 66048) 15 (G78 .slots)) (Open.puts-whole U H A W 6 l6 (G78 .slots) refl)) λ ρ pins. Local.mref-mem U H A W Y.erased (κs .1 .1 .1 .1
+            .1 .1 .0) (Array.Array L.u8 66048) 6 y1 refl ρ (pins .0)) (pre (λ Ψ. Ψ) (forget 15 Row.dead refl) (pre (λ Ψ. Ψ) (end 16 refl) (pre (Typed.ask s79) (LendAt.g-way-back-shr U H A W
+            E (Frozen.fz-open Y.erased 5 (κs .1 .1 .1 .1 .1 .0) l5 (LendAt.fz-shr (Array.Array L.u64 6912) 16)) (LendAt.as-was-open Y.erased 5 (κs .1 .1 .1 .1 .1 .0) l5 (LendAt.fz-shr
+            (Array.Array L.u64 6912) 16) (LendAt.as-was-shr (Array.Array L.u64 6912) 16)) _ 7 r4 (Row.setLife 5 l5 (G81 .slots)) (λ x. x) (λ x. x) (as-is (Frozen.held (Frozen.fz-open
+            Y.erased 5 (κs .1 .1 .1 .1 .1 .0) l5 (LendAt.fz-shr (Array.Array L.u64 6912) 16)))) refl (WayLend.puts-open U H A Y.erased 5 (κs .1 .1 .1 .1 .1 .0) l5 (LendAt.fz-shr (Array.Array
+            L.u64 6912) 16) (G81 .slots) (G81 .slots) (Row.setLife 5 l5 (G81 .slots)) (LendAt.puts-none-shr U H A (Array.Array L.u64 6912) 16 (G81 .slots)) (Open.puts-whole U H A W 5 l5 (G81
+            .slots) refl)) λ ρ pins. Local.mref-mem U H A W Y.erased (κs .1 .1 .1 .1 .1 .0) (Array.Array L.u64 6912) 5 y0 refl ρ (pins .0)) (pre (λ Ψ. Ψ) (forget 16 Row.dead refl) (pre
+            (Typed.pass T25 T1 s23) (room 9 Y.tyBool (Scalar.room-sc U H A W Row.sBool)) (Typed.t-return U H A W C E Δ0 tt)))))))
 
-        d20 : Typed.Typed U H A C E G73 b7 Δ0 at20
-        d20 = pre (room 27 y9 (Shared.room-sslice U H A W L.u8 y15 15)) (pre (room 29 y8 (Shared.room-sslice U H A W L.u64 y13 16)) (pre (room 11 (Y.tyInt Y.w64) (Scalar.room-sc U H A W
-            (Row.sInt Y.w64))) (pre (room 12 Answered′.mir (Local.room-whole U H A W (Declared.row Answered.the-type) Answered′.mir refl)) d16)))
+        d20 : Typed.Typed U H A C E (life 5 Row.off (on 29 r24 (on 7 (Frozen.held (Frozen.fz-open Y.erased 5 (κs .1 .1 .1 .1 .1 .0) l5 (LendAt.fz-shr (Array.Array L.u64 6912) 16))) (on 0 r46
+            G69)))) b7 Δ0 at20
+        d20 = pre (Typed.pass T73 T74 s71) (room 27 y9 (Shared.room-sslice U H A W L.u8 y15 15)) (pre (Typed.pass T74 T75 s72) (room 29 y8 (Shared.room-sslice U H A W L.u64 y13 16)) (pre
+            (Typed.pass T75 T76 s73) (room 11 (Y.tyInt Y.w64) (Scalar.room-sc U H A W (Row.sInt Y.w64))) (pre (Typed.pass T76 T77 s74) (room 12 Answered′.mir (Local.room-whole U H A W
+            (Declared.row Answered.the-type) Answered′.mir refl)) d16)))
 
         d28 : Typed.Typed U H A C E G65 b31 Δ0 at28
-        d28 = seq (LendAt.t-way-share U H A W E C (Array.Array L.u8 66048) (λ ρ. Path'._≡_ (Row.lft ρ 6) (κs .1 .1 .1 .1 .1 .1 .0)) _ (Row.out 8 (G65 .locals)) (λ u. Row.drop 8 (G65 .locals)
-            u) (Row.setLife 6 Row.off (G65 .slots)) 8 (λ t. Y.deref (Y.tyInt Y.w8) ∷ t) (Y.tyInt Y.w8) y15 26 15 (λ u. u .1 .1 .1 .1 .1 .1 .1 .1 .0 .now) (λ u. u .1 .1 .1 .1 .1 .1 .1 .1 .0
-            .ptr) (λ T′. record
+        d28 = seq (Typed.both s63) (LendAt.t-way-share U H A W E C (Array.Array L.u8 66048) (λ ρ. Path'._≡_ (Row.lft ρ 6) (κs .1 .1 .1 .1 .1 .1 .0)) _ (Row.out 8 (G65 .locals)) (λ u.
+            Row.drop 8 (G65 .locals) u) (Row.setLife 6 Row.off (G65 .slots)) 8 (λ t. Y.deref (Y.tyInt Y.w8) ∷ t) (Y.tyInt Y.w8) y15 26 15 (λ u. u .1 .1 .1 .1 .1 .1 .1 .1 .0 .now) (λ u. u .1
+            .1 .1 .1 .1 .1 .1 .1 .0 .ptr) (λ T′. record
             { locals = Row.setRow 8 (8, Frozen.held (Frozen.fz-open Y.erased 6 (κs .1 .1 .1 .1 .1 .1 .0) l6 (LendAt.fz-shr (Array.Array L.u8 66048) 15))) T′; slots = Row.setLife 6 Row.off (G65 .slots) })
             (λ u γ T′ m′. Row.set 8 (8, Frozen.held (Frozen.fz-open Y.erased 6 (κs .1 .1 .1 .1 .1 .1 .0) l6 (LendAt.fz-shr (Array.Array L.u8 66048) 15))) (u .1 .1 .1 .1 .1 .1 .1 .1 .0, γ) T′
             m′) (λ u. Unit) (Call.pin-lease U H A W 6 (G65 .slots) (κs .1 .1 .1 .1 .1 .1 .0) (qs .1 .1 .1 .1 .1 .1 .0) refl) (λ ρ told u asked. WayLend.wt-mut U H A W E Y.erased 6 (κs .1 .1
             .1 .1 .1 .1 .0) l6 (LendAt.fz-shr (Array.Array L.u8 66048) 15) y1 (Y.tyInt Y.w8) (u .1 .1 .1 .1 .1 .1 .1 .1 .0) (Wp.spotOf U H E 8 .1, 0) (WayLend.wt-mref U H A W E Y.erased (κs
             .1 .1 .1 .1 .1 .1 .0) (Array.Array L.u8 66048) 6 y1 (Frozen.fz-open Y.erased 6 (κs .1 .1 .1 .1 .1 .1 .0) l6 (LendAt.fz-shr (Array.Array L.u8 66048) 15)) refl _ ρ u (Row.setLife 6
             Row.off (G65 .slots)) 8 (λ x. x) told (as-is r5)) refl (Row.setLife 6 Row.off (G65 .slots)) (Open.takes-whole U H A W 6 (G65 .slots) l6 refl tt) told) (gone y15) refl λ b o. tt)
-            (pre (AsSlice.g-sref-as-slice U H A W E _ 26 15 L.u8 tt 66048 (Dec'.lit< tt, Dec'.lit< tt) (Copies.halves U H A W (Copies.cArr L.u8 (Copies.cRf (Referent.fInt Y.w8)) 66048)) y15
-            Row.alive (λ x. x) (as-is (Rows.sref (Array.Array L.u8 66048) y15 15)) refl tt) (seq (Relend.t-sl-aggregate U H A W E L.u8 C (Relend.asShr L.u8) _ 26 27 15 y15 y15 (λ x. x)
-            (Scalar.oBig Y.w64 66048) (as-is (Relend.ssptr L.u8 y15 15)) (gone y9) record { lower = record { fits = Dec'.lit< tt } } refl refl λ b o k. tt) (pre (begin 16 _) (seq
-            (LendAt.t-way-share U H A W E C (Array.Array L.u64 6912) (λ ρ. Path'._≡_ (Row.lft ρ 5) (κs .1 .1 .1 .1 .1 .0)) _ (Row.out 7 (G69 .locals)) (λ u. Row.drop 7 (G69 .locals) u)
-            (Row.setLife 5 Row.off (G69 .slots)) 7 (λ t. Y.deref (Y.tyInt Y.w64) ∷ t) (Y.tyInt Y.w64) y13 28 16 (λ u. u .1 .1 .1 .1 .1 .1 .1 .0 .now) (λ u. u .1 .1 .1 .1 .1 .1 .1 .0 .ptr) (λ
-            T′. record
+            (pre (Typed.give s64) (AsSlice.g-sref-as-slice U H A W E _ 26 15 L.u8 tt 66048 (Dec'.lit< tt, Dec'.lit< tt) (Copies.halves U H A W (Copies.cArr L.u8 (Copies.cRf (Referent.fInt
+            Y.w8)) 66048)) y15 Row.alive (λ x. x) (as-is (Rows.sref (Array.Array L.u8 66048) y15 15)) refl tt) (seq (Typed.ask s65) (Relend.t-sl-aggregate U H A W E L.u8 C (Relend.asShr
+            L.u8) _ 26 27 15 y15 y15 (λ x. x) (Scalar.oBig Y.w64 66048) (as-is (Relend.ssptr L.u8 y15 15)) (gone y9) record { lower = record { fits = Dec'.lit< tt } } refl refl λ b o k. tt)
+            (pre (λ Ψ. Ψ) (begin 16 _) (seq (Typed.both s67) (LendAt.t-way-share U H A W E C (Array.Array L.u64 6912) (λ ρ. Path'._≡_ (Row.lft ρ 5) (κs .1 .1 .1 .1 .1 .0)) _ (Row.out 7 (G69
+            .locals)) (λ u. Row.drop 7 (G69 .locals) u) (Row.setLife 5 Row.off (G69 .slots)) 7 (λ t. Y.deref (Y.tyInt Y.w64) ∷ t) (Y.tyInt Y.w64) y13 28 16 (λ u. u .1 .1 .1 .1 .1 .1 .1 .0
+            .now) (λ u. u .1 .1 .1 .1 .1 .1 .1 .0 .ptr) (λ T′. record
             { locals = Row.setRow 7 (7, Frozen.held (Frozen.fz-open Y.erased 5 (κs .1 .1 .1 .1 .1 .0) l5 (LendAt.fz-shr (Array.Array L.u64 6912) 16))) T′; slots = Row.setLife 5 Row.off (G69 .slots) })
             (λ u γ T′ m′. Row.set 7 (7, Frozen.held (Frozen.fz-open Y.erased 5 (κs .1 .1 .1 .1 .1 .0) l5 (LendAt.fz-shr (Array.Array L.u64 6912) 16))) (u .1 .1 .1 .1 .1 .1 .1 .0, γ) T′ m′)
             (λ u. Unit) (Call.pin-lease U H A W 5 (G69 .slots) (κs .1 .1 .1 .1 .1 .0) (qs .1 .1 .1 .1 .1 .0) refl) (λ ρ told u asked. WayLend.wt-mut U H A W E Y.erased 5 (κs .1 .1 .1 .1 .1
             .0) l5 (LendAt.fz-shr (Array.Array L.u64 6912) 16) y0 (Y.tyInt Y.w64) (u .1 .1 .1 .1 .1 .1 .1 .0) (Wp.spotOf U H E 7 .1, 0) (WayLend.wt-mref U H A W E Y.erased (κs .1 .1 .1 .1 .1
             .0) (Array.Array L.u64 6912) 5 y0 (Frozen.fz-open Y.erased 5 (κs .1 .1 .1 .1 .1 .0) l5 (LendAt.fz-shr (Array.Array L.u64 6912) 16)) refl _ ρ u (Row.setLife 5 Row.off (G69
             .slots)) 7 (λ x. x) told (as-is r4)) refl (Row.setLife 5 Row.off (G69 .slots)) (Open.takes-whole U H A W 5 (G69 .slots) l5 refl tt) told) (gone y13) refl λ b o. tt) (pre
-            (AsSlice.g-sref-as-slice U H A W E _ 28 16 L.u64 tt 6912 (Dec'.lit< tt, Dec'.lit< tt) (Copies.halves U H A W (Copies.cArr L.u64 (Copies.cRf (Referent.fInt Y.w64)) 6912)) y13
-            Row.alive (λ x. x) (as-is (Rows.sref (Array.Array L.u64 6912) y13 16)) refl tt) (seq (Relend.t-sl-aggregate U H A W E L.u64 C (Relend.asShr L.u64) _ 28 29 16 y13 y13 (λ x. x)
-            (Scalar.oBig Y.w64 6912) (as-is (Relend.ssptr L.u64 y13 16)) (gone y8) record { lower = record { fits = Dec'.lit< tt } } refl refl λ b o k. tt) (seq (Plain.t-call-plain U H A W C
-            2 ps·3 r·3 (cl .6) (cl .7) "session_main::tell_all" (known .3) E (λ pos β. β) _
+            (Typed.give s68) (AsSlice.g-sref-as-slice U H A W E _ 28 16 L.u64 tt 6912 (Dec'.lit< tt, Dec'.lit< tt) (Copies.halves U H A W (Copies.cArr L.u64 (Copies.cRf (Referent.fInt
+            Y.w64)) 6912)) y13 Row.alive (λ x. x) (as-is (Rows.sref (Array.Array L.u64 6912) y13 16)) refl tt) (seq (Typed.ask s69) (Relend.t-sl-aggregate U H A W E L.u64 C (Relend.asShr
+            L.u64) _ 28 29 16 y13 y13 (λ x. x) (Scalar.oBig Y.w64 6912) (as-is (Relend.ssptr L.u64 y13 16)) (gone y8) record { lower = record { fits = Dec'.lit< tt } } refl refl λ b o k. tt)
+            (seq (Typed.both s70) (Plain.t-call-plain U H A W C 2 ps·3 r·3 (cl .6) (cl .7) "session_main::tell_all" (known .3) E (λ pos β. β) _
             (Bool.bAt 9 λ x. x, (record { pos = 12; st = []; d = 0; at = λ x. x }, (record { pos = 27; ty = y15; ref = λ x. x }, (record { pos = 29; ty = y13; ref = λ x. x }, tt)))) 0 (15 ∷
             16 ∷ []) (Call.sub-id U H A W _)
             ((Scalar.reads-sc U H A W Row.sBool, refl), ((copied (Declared.row Answered.the-type) refl (Copies.cStruct Answered.the-type Answered′.the-laws Answered′.the-copy .copy U H A W), refl), (ShrSlice.spares-sslice U H A W L.u8 y15 15, Shared.reads-sslice U H A W L.u8 y15 15, refl, (ShrSlice.spares-sslice U H A W L.u64 y13 16, Shared.reads-sslice U H A W L.u64 y13 16, refl, tt))))
             (gone After′.mir) (tt, (tt, tt)) refl) d20)))))))
 
-        d36 : Typed.Typed U H A C E (lives (l0 ∷ l1 ∷ l2 ∷ l3 ∷ l4 ∷ Row.off ∷ Row.off ∷ Row.off ∷ Row.off ∷ Row.off ∷ Row.off ∷ Row.off ∷ Row.dead ∷ Row.alive ∷ Row.alive ∷ Row.off ∷
-            Row.off ∷ []) (on 23 r22 (on 20 r38 (on 6 r7 (on 5 r26 (on 3 r35 G49)))))) b31 Δ0 at36
-        d36 = pre (forget 12 Row.dead refl) (pre (end 13 refl) (pre (Reborrow.g-back-mref U H A W E _ 24 7 5 13 (Array.Array L.u64 6912) y0 y5 l5 (λ x. x) (λ x. x) (as-is r10) (as-is
-            (Rows.mref-owed (Array.Array L.u64 6912) y0 5 13 l5)) refl refl) (pre (forget 13 Row.dead refl) (pre (end 14 refl) (pre (Reborrow.g-back-mref U H A W E _ 25 8 6 14 (Array.Array
-            L.u8 66048) y1 y4 l6 (λ x. x) (λ x. x) (as-is r11) (as-is (Rows.mref-owed (Array.Array L.u8 66048) y1 6 14 l6)) refl refl) (pre (forget 14 Row.dead refl) (pre (begin 15 _)
-            d28)))))))
+        d36 : Typed.Typed U H A C E (record
+            { locals = List._++_ g41 t42; slots = l0 ∷ l1 ∷ l2 ∷ l3 ∷ l4 ∷ Row.off ∷ Row.off ∷ Row.off ∷ Row.off ∷ Row.off ∷ Row.off ∷ Row.off ∷ Row.dead ∷ Row.alive ∷ Row.alive ∷ Row.off ∷ Row.off ∷ [] })
+            b31 Δ0 at36
+        d36 = pre (λ Ψ. Ψ) (forget 12 Row.dead refl) (pre (λ Ψ. Ψ) (end 13 refl) (pre (Typed.ask s57) (Reborrow.g-back-mref U H A W E _ 24 7 5 13 (Array.Array L.u64 6912) y0 y5 l5 (λ x. x)
+            (λ x. x) (as-is r10) (as-is (Rows.mref-owed (Array.Array L.u64 6912) y0 5 13 l5)) refl refl) (pre (λ Ψ. Ψ) (forget 13 Row.dead refl) (pre (λ Ψ. Ψ) (end 14 refl) (pre (Typed.ask
+            s60) (Reborrow.g-back-mref U H A W E _ 25 8 6 14 (Array.Array L.u8 66048) y1 y4 l6 (λ x. x) (λ x. x) (as-is r11) (as-is (Rows.mref-owed (Array.Array L.u8 66048) y1 6 14 l6)) refl
+            refl) (pre (λ Ψ. Ψ) (forget 14 Row.dead refl) (pre (λ Ψ. Ψ) (begin 15 _) d28)))))))
 
-        d44 : Typed.Typed U H A C E G49 b31 Δ0 at44
-        d44 = pre (end 10 refl) (pre (Relend.g-back-sl U H A W E S.row _ 20 3 1 10 y16 y17 l1 (λ x. x) (λ x. x) (as-is r41) (as-is (Relend.mslice-owed S.row y16 1 10 l1)) refl refl) (pre
-            (forget 10 Row.dead refl) (pre (end 11 refl) (pre (Reshare.g-back-sl-shrᵖ U H A W E L.u8 _ 5 3 11 y12 l3 (λ x. x) (as-is (Reshare.mslice-owedSᵖ L.u8 y12 3 11 l3)) refl refl) (pre
-            (forget 11 Row.dead refl) (pre (end 12 refl) (pre (Reborrow.g-back-mref U H A W E _ 23 6 4 12 (Array.Array L.u64 512) y3 y7 l4 (λ x. x) (λ x. x) (as-is r14) (as-is
-            (Rows.mref-owed (Array.Array L.u64 512) y3 4 12 l4)) refl refl) d36)))))))
+        d44 : Typed.Typed U H A C E (record
+            { locals = List._++_ g36 t37; slots = l0 ∷ Row.off ∷ l2 ∷ Row.off ∷ Row.off ∷ Row.off ∷ Row.off ∷ Row.off ∷ Row.off ∷ Row.off ∷ Row.alive ∷ Row.alive ∷ Row.alive ∷ Row.alive ∷ Row.alive ∷ Row.off ∷ Row.off ∷ [] })
+            b31 Δ0 at44
+        d44 = pre (λ Ψ. Ψ) (end 10 refl) (pre (Typed.both s48) (Relend.g-back-sl U H A W E S.row _ 20 3 1 10 y16 y17 l1 (λ x. x) (λ x. x) (as-is r41) (as-is (Relend.mslice-owed S.row y16 1
+            10 l1)) refl refl) (pre (λ Ψ. Ψ) (forget 10 Row.dead refl) (pre (λ Ψ. Ψ) (end 11 refl) (pre (Typed.pass T51 T54 s51) (Reshare.g-back-sl-shrᵖ U H A W E L.u8 _ 5 3 11 y12 l3 (λ x.
+            x) (as-is (Reshare.mslice-owedSᵖ L.u8 y12 3 11 l3)) refl refl) (pre (λ Ψ. Ψ) (forget 11 Row.dead refl) (pre (λ Ψ. Ψ) (end 12 refl) (pre (Typed.ask s54) (Reborrow.g-back-mref U H
+            A W E _ 23 6 4 12 (Array.Array L.u64 512) y3 y7 l4 (λ x. x) (λ x. x) (as-is r14) (as-is (Rows.mref-owed (Array.Array L.u64 512) y3 4 12 l4)) refl refl) d36)))))))
 
-        d49 : Typed.Typed U H A C E (lives (Row.off ∷ Row.off ∷ l2 ∷ Row.off ∷ Row.off ∷ Row.off ∷ Row.off ∷ Row.off ∷ Row.off ∷ Row.alive ∷ Row.alive ∷ Row.alive ∷ Row.alive ∷ Row.alive ∷
-            Row.alive ∷ Row.off ∷ Row.off ∷ []) (on 8 (Rows.mref-owed (Array.Array L.u8 66048) y1 6 14 l6) (on 7 (Rows.mref-owed (Array.Array L.u64 6912) y0 5 13 l5) (on 6 (Rows.mref-owed
-            (Array.Array L.u64 512) y3 4 12 l4) (on 5 (Reshare.mslice-owedSᵖ L.u8 y12 3 11 l3) (on 3 (Relend.mslice-owed S.row y16 1 10 l1) (on 2 (Rows.mref-owed (Array.Array L.u64 928) y2 0
-            9 l0) T44))))))) b31 Δ0 at49
-        d49 = pre (room 22 y9 (Shared.room-sslice U H A W L.u8 y15 11)) (pre (room 1 Session′.mir (Local.room-whole U H A W (Declared.row Session.the-type) Session′.mir refl)) (pre (end 9
-            refl) (pre (Reborrow.g-back-mref U H A W E _ 18 2 0 9 (Array.Array L.u64 928) y2 y6 l0 (λ x. x) (λ x. x) (as-is r13) (as-is (Rows.mref-owed (Array.Array L.u64 928) y2 0 9 l0))
-            refl refl) (pre (forget 9 Row.dead refl) d44))))
+        d49 : Typed.Typed U H A C E (record
+            { locals = List._++_ g32 t33; slots = (Row.off ∷ Row.off ∷ l2 ∷ Row.off ∷ Row.off ∷ Row.off ∷ Row.off ∷ Row.off ∷ Row.off ∷ Row.alive ∷ Row.alive ∷ Row.alive ∷ Row.alive ∷ Row.alive ∷ Row.alive ∷ Row.off ∷ Row.off ∷ []) })
+            b31 Δ0 at49
+        d49 = pre (Typed.pass T44 T45 s42) (room 22 y9 (Shared.room-sslice U H A W L.u8 y15 11)) (pre (Typed.pass T45 T46 s43) (room 1 Session′.mir (Local.room-whole U H A W (Declared.row
+            Session.the-type) Session′.mir refl)) (pre (λ Ψ. Ψ) (end 9 refl) (pre (Typed.ask s45) (Reborrow.g-back-mref U H A W E _ 18 2 0 9 (Array.Array L.u64 928) y2 y6 l0 (λ x. x) (λ x.
+            x) (as-is r13) (as-is (Rows.mref-owed (Array.Array L.u64 928) y2 0 9 l0)) refl refl) (pre (λ Ψ. Ψ) (forget 9 Row.dead refl) d44))))
 
         d57 : Typed.Typed U H A C E (lives (Row.off ∷ Row.off ∷ l2 ∷ Row.off ∷ l4 ∷ l5 ∷ l6 ∷ Row.off ∷ Row.off ∷ Row.alive ∷ Row.alive ∷ Row.alive ∷ Row.off ∷ Row.off ∷ Row.off ∷ Row.off ∷
             Row.off ∷ []) (on 5 (Reshare.mslice-owedSᵖ L.u8 y12 3 11 l3) (on 3 (Relend.mslice-owed S.row y16 1 10 l1) (on 2 (Rows.mref-owed (Array.Array L.u64 928) y2 0 9 l0) T36)))) b36 Δ0
             at57
-        d57 = seq (Relend.t-sl-aggregate U H A W E L.u8 C (Relend.asShr L.u8) _ 21 22 11 y15 y15 (λ x. x) (Scalar.oAt 11 (Y.tyInt Y.w64) (Row.valS (Row.sInt Y.w64))) (as-is (Relend.ssptr
-            L.u8 y15 11)) (gone y9) (Scalar.reads-sc U H A W (Row.sInt Y.w64), refl) refl refl λ b o k. tt) (pre (begin 12 _) (seq (Reborrow.t-mref-relend U H A W E C _ 6 23 4 12
-            (Array.Array L.u64 512) y21 y3 y7 l4 (λ x. x) (as-is r7) (gone y7) refl tt refl refl λ b o. tt) (pre (begin 13 _) (seq (Reborrow.t-mref-relend U H A W E C _ 7 24 5 13
-            (Array.Array L.u64 6912) y18 y0 y5 l5 (λ x. x) (as-is r4) (gone y5) refl tt refl refl λ b o. tt) (pre (begin 14 _) (seq (Reborrow.t-mref-relend U H A W E C _ 8 25 6 14
-            (Array.Array L.u8 66048) y19 y1 y4 l6 (λ x. x) (as-is r5) (gone y4) refl tt refl refl λ b o. tt) (seq (Plain.t-call-plain U H A W C 6 ps·2 r·2 (cl .4) (cl .5) "session::respond"
-            (known .2) E (λ pos β. β) _
+        d57 = seq (Typed.ask s34) (Relend.t-sl-aggregate U H A W E L.u8 C (Relend.asShr L.u8) _ 21 22 11 y15 y15 (λ x. x) (Scalar.oAt 11 (Y.tyInt Y.w64) (Row.valS (Row.sInt Y.w64))) (as-is
+            (Relend.ssptr L.u8 y15 11)) (gone y9) (Scalar.reads-sc U H A W (Row.sInt Y.w64), refl) refl refl λ b o k. tt) (pre (λ Ψ. Ψ) (begin 12 _) (seq (Typed.give s36)
+            (Reborrow.t-mref-relend U H A W E C _ 6 23 4 12 (Array.Array L.u64 512) y21 y3 y7 l4 (λ x. x) (as-is r7) (gone y7) refl tt refl refl λ b o. tt) (pre (λ Ψ. Ψ) (begin 13 _) (seq
+            (Typed.give s38) (Reborrow.t-mref-relend U H A W E C _ 7 24 5 13 (Array.Array L.u64 6912) y18 y0 y5 l5 (λ x. x) (as-is r4) (gone y5) refl tt refl refl λ b o. tt) (pre (λ Ψ. Ψ)
+            (begin 14 _) (seq (Typed.give s40) (Reborrow.t-mref-relend U H A W E C _ 8 25 6 14 (Array.Array L.u8 66048) y19 y1 y4 l6 (λ x. x) (as-is r5) (gone y4) refl tt refl refl λ b o.
+            tt) (seq (Typed.both s41) (Plain.t-call-plain U H A W C 6 ps·2 r·2 (cl .4) (cl .5) "session::respond" (known .2) E (λ pos β. β) _
             (record { pos = 1; st = []; d = 0; at = λ x. x }, (record { pos = 18; ty = y6; ref = λ x. x }, (record { pos = 20; ty = y17; ref = λ x. x }, (record { pos = 22; ty = y15; ref = λ x. x }, (record { pos = 23; ty = y7; ref = λ x. x }, (record { pos = 24; ty = y5; ref = λ x. x }, (record { pos = 25; ty = y4; ref = λ x. x }, tt)))))))
             12 (9 ∷ 10 ∷ 11 ∷ 12 ∷ 13 ∷ 14 ∷ []) (Call.sub-id U H A W _)
             ((copied (Declared.row Session.the-type) refl (Copies.cStruct Session.the-type Session′.the-laws Session′.the-copy .copy U H A W), refl), (as-is r12, Reads'.reads-mref U H A W (Array.Array L.u64 928) y6 9, refl, (as-is r40, Mut.reads-mslice U H A W S.row y17 10, refl, (ShrSlice.spares-sslice U H A W L.u8 y15 11, Shared.reads-sslice U H A W L.u8 y15 11, refl, (as-is r9, Reads'.reads-mref U H A W (Array.Array L.u64 512) y7 12, refl, (as-is r8, Reads'.reads-mref U H A W (Array.Array L.u64 6912) y5 13, refl, (as-is (Rows.mref (Array.Array L.u8 66048) y4 14), Reads'.reads-mref U H A W (Array.Array L.u8 66048) y4 14, refl, tt)))))))
             (gone Answered′.mir) (tt, (tt, (tt, (tt, (tt, (tt, tt)))))) refl) d49)))))))
 
-        d65 : Typed.Typed U H A C E G28 b40 Δ0 at65
-        d65 = pre (room 10 Record′.mir (Local.room-whole U H A W (Declared.row Record.the-type) Record′.mir refl)) (pre (begin 9 _) (seq (Reborrow.t-mref-relend U H A W E C _ 2 18 0 9
-            (Array.Array L.u64 928) y20 y2 y6 l0 (λ x. x) (as-is r6) (gone y6) refl tt refl refl λ b o. tt) (pre (begin 10 _) (seq (Relend.t-sl-relend U H A W E S.row C _ 3 19 1 10 y16 y17
-            l1 0 (λ x. x) (as-is r35) (gone y17) refl tt refl refl refl λ b o. tt) (seq (Relend.t-sl-aggregate U H A W E S.row C (Relend.asMut S.row) _ 19 20 10 y17 y17 (λ x. x) (Scalar.oFld
-            3 (Y.field 1 ∷ []) (Y.tyInt Y.w64) 8 λ v. Shared.lenV (v .0)) (as-is (Relend.msptr S.row y17 10)) (gone (L.sl y17)) (Relend.reads-owed-len U H A W S.row y16 1 10 l1 8 refl, refl)
-            refl refl λ b o k. tt) (pre (begin 11 _) (seq (Reshare.t-sl-reshareᵖ U H A W E L.u8 C _ 5 21 3 11 y12 y15 l3 0 (λ x. x) (λ u. u .1 .1 .1 .1 .1 .1 .1 .1 .1 .1 .1 .0) (as-is r26)
-            (gone y15) refl tt refl refl refl λ b o. tt) d57)))))))
+        d65 : Typed.Typed U H A C E (lives z0 T28) b40 Δ0 at65
+        d65 = pre (Typed.pass T28 T29 s26) (room 10 Record′.mir (Local.room-whole U H A W (Declared.row Record.the-type) Record′.mir refl)) (pre (λ Ψ. Ψ) (begin 9 _) (seq (Typed.give s28)
+            (Reborrow.t-mref-relend U H A W E C _ 2 18 0 9 (Array.Array L.u64 928) y20 y2 y6 l0 (λ x. x) (as-is r6) (gone y6) refl tt refl refl λ b o. tt) (pre (λ Ψ. Ψ) (begin 10 _) (seq
+            (Typed.give s30) (Relend.t-sl-relend U H A W E S.row C _ 3 19 1 10 y16 y17 l1 0 (λ x. x) (as-is r35) (gone y17) refl tt refl refl refl λ b o. tt) (seq (Typed.ask s31)
+            (Relend.t-sl-aggregate U H A W E S.row C (Relend.asMut S.row) _ 19 20 10 y17 y17 (λ x. x) (Scalar.oFld 3 (Y.field 1 ∷ []) (Y.tyInt Y.w64) 8 λ v. Shared.lenV (v .0)) (as-is
+            (Relend.msptr S.row y17 10)) (gone (L.sl y17)) (Relend.reads-owed-len U H A W S.row y16 1 10 l1 8 refl, refl) refl refl λ b o k. tt) (pre (λ Ψ. Ψ) (begin 11 _) (seq (Typed.both
+            s33) (Reshare.t-sl-reshareᵖ U H A W E L.u8 C _ 5 21 3 11 y12 y15 l3 0 (λ x. x) (λ u. u .1 .1 .1 .1 .1 .1 .1 .1 .1 .1 .1 .0) (as-is r26) (gone y15) refl tt refl refl refl λ b o.
+            tt) d57)))))))
 
         d66 : Typed.Typed U H A C E G18 b41 Δ0 at66
-        d66 = seq (Scalar.t-use U H A W E C _ (Scalar.oFld 10 (Y.field 1 ∷ []) (Y.tyInt Y.w64) 8 (Reads.fieldV Record.the-type Record′.the-laws 1)) 11 L.h64 (Y.tyInt Y.w64) (Row.valS
-            (Row.sInt Y.w64)) (Row.sInt Y.w64 .of) (Reads.reads-field U H A W Record.the-type Record′.the-laws 1 (Y.tyInt Y.w64) 8 refl, refl) (gone (Y.tyInt Y.w64)) (Scalar.holds-sc U H A W
-            (Row.sInt Y.w64)) refl (λ u. refl) λ u. tt) d65
+        d66 = seq (Typed.pass T16 T28 s25) (Scalar.t-use U H A W E C _ (Scalar.oFld 10 (Y.field 1 ∷ []) (Y.tyInt Y.w64) 8 (Reads.fieldV Record.the-type Record′.the-laws 1)) 11 L.h64 (Y.tyInt
+            Y.w64) (Row.valS (Row.sInt Y.w64)) (Row.sInt Y.w64 .of) (Reads.reads-field U H A W Record.the-type Record′.the-laws 1 (Y.tyInt Y.w64) 8 refl, refl) (gone (Y.tyInt Y.w64))
+            (Scalar.holds-sc U H A W (Row.sInt Y.w64)) refl (λ u. refl) λ u. tt) d65
 
         d74 : Typed.Typed U H A C E (lives (l0 ∷ l1 ∷ l2 ∷ Row.off ∷ l4 ∷ l5 ∷ l6 ∷ Row.dead ∷ Row.alive ∷ Row.off ∷ Row.off ∷ Row.off ∷ Row.off ∷ Row.off ∷ Row.off ∷ Row.off ∷ Row.off ∷ [])
-            (on 14 r27 (on 4 r25 G10))) b43 Δ0 at74
-        d74 = pre (forget 7 Row.dead refl) (pre (end 8 refl) (pre (Relend.g-back-sl U H A W E L.u8 _ 16 5 3 8 y12 y14 l3 (λ x. x) (λ x. x) (as-is r34) (as-is (Relend.mslice-owed L.u8 y12 3 8
-            l3)) refl refl) (pre (Know.g-sl-known U H A W (Referent.fInt Y.w8) E _ 5 3 y12 l3 0 (λ x. x) record { fits = Dec'.lit< tt } (as-is r26) refl tt) (pre (forget 8 Row.dead refl)
-            (pre (Know'.g-struct-known U H A W E Record.the-type Record′.the-laws _ 10 (λ x. x) (as-is r45)) (seq (Scalar.t-op1 U H A W E C _ Y.bitNot (Scalar.oFld 10 (Y.field 0 ∷ Y.field 0
-            ∷ []) Y.tyBool 0 λ x. Reads.fieldV Piece.the-type Piece′.the-laws 0 (Record.struct .as-values x .0)) 17 L.hbool Y.tyBool (Row.valS Row.sBool) (Row.sBool .of)
+            (on 5 (Relend.mslice-owed L.u8 y12 3 8 l3) T12)) b43 Δ0 at74
+        d74 = pre (λ Ψ. Ψ) (forget 7 Row.dead refl) (pre (λ Ψ. Ψ) (end 8 refl) (pre (Typed.both s14) (Relend.g-back-sl U H A W E L.u8 _ 16 5 3 8 y12 y14 l3 (λ x. x) (λ x. x) (as-is r34)
+            (as-is (Relend.mslice-owed L.u8 y12 3 8 l3)) refl refl) (pre (Typed.give s15) (Know.g-sl-known U H A W (Referent.fInt Y.w8) E _ 5 3 y12 l3 0 (λ x. x) record
+            { fits = Dec'.lit< tt } (as-is r26) refl tt) (pre (λ Ψ. Ψ) (forget 8 Row.dead refl) (pre (Typed.give s17) (Know'.g-struct-known U H A W E Record.the-type Record′.the-laws _ 10 (λ
+            x. x) (as-is r45)) (seq (Typed.ask s18) (Scalar.t-op1 U H A W E C _ Y.bitNot (Scalar.oFld 10 (Y.field 0 ∷ Y.field 0 ∷ []) Y.tyBool 0 λ x. Reads.fieldV Piece.the-type
+            Piece′.the-laws 0 (Record.struct .as-values x .0)) 17 L.hbool Y.tyBool (Row.valS Row.sBool) (Row.sBool .of)
             (Reads.reads-inner U H A W Piece.the-type Piece′.the-laws r45 0 (λ x. Record.struct .as-values x .0) (Reads.reads-field U H A W Record.the-type Record′.the-laws 0 Piece′.mir 0 refl) 0 Y.tyBool 0 refl, refl)
             (gone Y.tyBool) (Scalar.holds-sc U H A W Row.sBool) refl (λ u. refl) λ u. tt) (Typed.t-seq U H A W C E _ _ b10 b41 Δ0 at8 at66 d8 d66)))))))
 
-        d77 : Typed.Typed U H A C E G10 b43 Δ0 at77
-        d77 = pre (end 7 refl) (pre (Relend.g-back-sl U H A W E L.u8 _ 14 4 2 7 y11 y14 l2 (λ x. x) (λ x. x) (as-is r34) (as-is (Relend.mslice-owed L.u8 y11 2 7 l2)) refl refl) (pre
-            (Know.g-sl-known U H A W (Referent.fInt Y.w8) E _ 4 2 y11 l2 0 (λ x. x) record { fits = Dec'.lit< tt } (as-is r25) refl tt) d74))
+        d77 : Typed.Typed U H A C E (lives (l0 ∷ l1 ∷ Row.off ∷ Row.off ∷ l4 ∷ l5 ∷ l6 ∷ Row.alive ∷ Row.alive ∷ Row.off ∷ Row.off ∷ Row.off ∷ Row.off ∷ Row.off ∷ Row.off ∷ Row.off ∷ Row.off
+            ∷ []) (on 5 (Relend.mslice-owed L.u8 y12 3 8 l3) (on 4 (Relend.mslice-owed L.u8 y11 2 7 l2) T10))) b43 Δ0 at77
+        d77 = pre (λ Ψ. Ψ) (end 7 refl) (pre (Typed.both s10) (Relend.g-back-sl U H A W E L.u8 _ 14 4 2 7 y11 y14 l2 (λ x. x) (λ x. x) (as-is r34) (as-is (Relend.mslice-owed L.u8 y11 2 7
+            l2)) refl refl) (pre (Typed.give s11) (Know.g-sl-known U H A W (Referent.fInt Y.w8) E _ 4 2 y11 l2 0 (λ x. x) record { fits = Dec'.lit< tt } (as-is r25) refl tt) d74))
 
         d85 : Typed.Typed U H A C E G0 b48 Δ0 at85
-        d85 = pre (Know.g-sl-known U H A W (Referent.fInt Y.w8) E _ 5 3 y12 l3 0 (λ x. x) record { fits = Dec'.lit< tt } (as-is r26) refl tt) (pre (begin 7 _) (seq (Relend.t-sl-relend U H A
-            W E L.u8 C _ 4 13 2 7 y11 y14 l2 0 (λ x. x) (as-is r25) (gone y14) refl tt refl refl refl λ b o. tt) (seq (Relend.t-sl-aggregate U H A W E L.u8 C (Relend.asMut L.u8) _ 13 14 7
-            y14 y14 (λ x. x) (Scalar.oFld 4 (Y.field 1 ∷ []) (Y.tyInt Y.w64) 8 λ v. Shared.lenV (v .0)) (as-is r29) (gone y10) (Relend.reads-owed-len U H A W L.u8 y11 2 7 l2 8 refl, refl)
-            refl refl λ b o k. tt) (pre (begin 8 _) (seq (Relend.t-sl-relend U H A W E L.u8 C _ 5 15 3 8 y12 y14 l3 0 (λ x. x) (as-is r26) (gone y14) refl tt refl refl refl λ b o. tt) (seq
-            (Relend.t-sl-aggregate U H A W E L.u8 C (Relend.asMut L.u8) _ 15 16 8 y14 y14 (λ x. x) (Scalar.oFld 5 (Y.field 1 ∷ []) (Y.tyInt Y.w64) 8 λ v. Shared.lenV (v .0)) (as-is r30)
-            (gone y10) (Relend.reads-owed-len U H A W L.u8 y12 3 8 l3 8 refl, refl) refl refl λ b o k. tt) (seq (Plain.t-call-plain U H A W C 2 ps·0 r·0 (cl .0) (cl .1) "frames::next_record"
-            (known .0) E (λ pos β. β) _ (record { pos = 14; ty = y14; ref = λ x. x }, (record { pos = 16; ty = y14; ref = λ x. x }, tt)) 10 (7 ∷ 8 ∷ []) (Call.sub-id U H A W _)
+        d85 = pre (Typed.give s1) (Know.g-sl-known U H A W (Referent.fInt Y.w8) E _ 5 3 y12 l3 0 (λ x. x) record { fits = Dec'.lit< tt } (as-is r26) refl tt) (pre (λ Ψ. Ψ) (begin 7 _) (seq
+            (Typed.give s3) (Relend.t-sl-relend U H A W E L.u8 C _ 4 13 2 7 y11 y14 l2 0 (λ x. x) (as-is r25) (gone y14) refl tt refl refl refl λ b o. tt) (seq (Typed.ask s4)
+            (Relend.t-sl-aggregate U H A W E L.u8 C (Relend.asMut L.u8) _ 13 14 7 y14 y14 (λ x. x) (Scalar.oFld 4 (Y.field 1 ∷ []) (Y.tyInt Y.w64) 8 λ v. Shared.lenV (v .0)) (as-is r29)
+            (gone y10) (Relend.reads-owed-len U H A W L.u8 y11 2 7 l2 8 refl, refl) refl refl λ b o k. tt) (pre (λ Ψ. Ψ) (begin 8 _) (seq (Typed.give s6) (Relend.t-sl-relend U H A W E L.u8 C
+            _ 5 15 3 8 y12 y14 l3 0 (λ x. x) (as-is r26) (gone y14) refl tt refl refl refl λ b o. tt) (seq (Typed.ask s7) (Relend.t-sl-aggregate U H A W E L.u8 C (Relend.asMut L.u8) _ 15 16
+            8 y14 y14 (λ x. x) (Scalar.oFld 5 (Y.field 1 ∷ []) (Y.tyInt Y.w64) 8 λ v. Shared.lenV (v .0)) (as-is r30) (gone y10) (Relend.reads-owed-len U H A W L.u8 y12 3 8 l3 8 refl, refl)
+            refl refl λ b o k. tt) (seq (Typed.both s8) (Plain.t-call-plain U H A W C 2 ps·0 r·0 (cl .0) (cl .1) "frames::next_record" (known .0) E (λ pos β. β) _
+            (record { pos = 14; ty = y14; ref = λ x. x }, (record { pos = 16; ty = y14; ref = λ x. x }, tt)) 10 (7 ∷ 8 ∷ []) (Call.sub-id U H A W _)
             (as-is r33, Mut.reads-mslice U H A W L.u8 y14 7, refl, (as-is (Mut.mslice L.u8 y14 8), Mut.reads-mslice U H A W L.u8 y14 8, refl, tt)) (gone Record′.mir) (tt, (tt, tt)) refl)
             d77)))))))
 
         d86 : Typed.Typed U H A C E G0 b48 Δ0 at86
-        d86 = pre (Know.g-sl-known U H A W (Referent.fInt Y.w8) E _ 4 2 y11 l2 0 (λ x. x) record { fits = Dec'.lit< tt } (as-is r25) refl tt) d85
+        d86 = pre (Typed.give s0) (Know.g-sl-known U H A W (Referent.fInt Y.w8) E _ 4 2 y11 l2 0 (λ x. x) record { fits = Dec'.lit< tt } (as-is r25) refl tt) d85
 
         pub typed : Typed.Typed U H A C E (Function.Γin 7 ps r xs m κs qs) b48 (Function.Δret 7 ps r xs m κs qs) Φ
         typed = d86
