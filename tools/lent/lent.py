@@ -662,7 +662,7 @@ def shared(w):
         d = next((c.name for c in w.crates.values() if c is not w.me and c.has), None)
         if d: short = f"Rattle.{d}.proofs.Short"
         else: write(os.path.join(proofs, "Short.antt"), read(os.path.join(HERE, "Short.antt.txt"))); made.append("Short.antt")
-    want = ["Lent"] + (["Short"] if os.path.exists(os.path.join(proofs, "Short.antt")) else [])
+    want = (["Lent"] if w.me.lent else []) + (["Short"] if os.path.exists(os.path.join(proofs, "Short.antt")) else [])
     for r, (m, _) in w.me.records.items():
         want.append(m); p = os.path.join(proofs, m + ".antt")
         if not os.path.exists(p):
