@@ -1,4 +1,5 @@
 // Reading and taking a list on numbers: what is refused, which slots the list names, what is shown of each, and what is left in the index.
+#![tactic(auto)]
 ghost use Rattle.std.specs.Prelude.{◌≡◌, ◌+◌, ◌*◌, ◌/◌, ◌<◌, ◌≤◌, length, get_or};
 ghost use Rattle.sampleinfo.specs.Counts.{accessed_at};
 ghost use Rattle.sampleinfo.specs.Samples.{total_of};
@@ -17,7 +18,7 @@ use sampleinfo::{NotAliveGenerationCounts, Sample};
 // ---- what is refused
 
 // The first bad pair of a list: what is wrong with it, and where it stands, counted from 0.
-#[derive(Drop)]
+#[derive(Clone, Copy)]
 enum FirstBad {
     Nowhere,
     NotLive(usize),

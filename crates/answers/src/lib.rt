@@ -1,4 +1,5 @@
 // The answer of a call as a value, and the lines that it prints.
+#![tactic(auto)]
 ghost use Rattle.std.specs.Prelude.{List, ◌≤◌, length, take};
 ghost use Rattle.sampleinfo.specs.declared.Info.{Info};
 ghost use Rattle.model.specs.Model as model;
@@ -12,7 +13,7 @@ ghost use Rattle.answers.specs.Says.{Shown, Says};
 use printing::Maybe;
 
 // What a call answers. The pairs of a selection and the infos of a list stand in lent words, and their number here.
-#[derive(Drop)]
+#[derive(Clone, Copy)]
 pub enum Reply {
     Refused(u64),
     Ok,

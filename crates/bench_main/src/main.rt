@@ -2,6 +2,7 @@
 // the cache answered go to standard output.
 // Only `main` lends the sample table, and it decides nothing: a function over the table has a long machine-made derivation (tools/lent), one over the
 // driver's words has none.
+#![tactic(auto)]
 ghost use Rattle.std.specs.Prelude.{◌≡◌, ◌<◌, ◌≤◌, length};
 
 use datasample_access::{ListOutcome, Listed};
@@ -9,7 +10,7 @@ use datasample_cache::{AddOutcome, Added, Evicted, Reply, SetUpOutcome};
 use std::num::wrapping_add_u64;
 
 // How much there can be of each thing.
-#[derive(Drop)]
+#[derive(Clone, Copy)]
 struct Most {}
 
 impl Most {
@@ -26,7 +27,7 @@ impl Most {
 
 // Where the driver's numbers stand in its words. In front of them the cache puts the infos of a read: it is lent the words as a slice, whose length
 // `main` has to know, so each function that is lent them ensures that it keeps it.
-#[derive(Drop)]
+#[derive(Clone, Copy)]
 struct Place {}
 
 impl Place {
@@ -69,7 +70,7 @@ fn name(i: u64) -> u64 {
 }
 
 // An order-sensitive sum that costs two additions a number.
-#[derive(Drop)]
+#[derive(Clone, Copy)]
 struct Sum {
     a: u64,
     b: u64,
@@ -145,7 +146,7 @@ fn put_recent(w: &mut [u64; Place::END], i: u64, key: u64)
 
 // ---- an add
 
-#[derive(Drop)]
+#[derive(Clone, Copy)]
 struct Arrival {
     row: u64,
     instance: u64,
@@ -325,7 +326,7 @@ fn print_sums(w: &[u64; Place::END]) {
 // ---- a step
 
 // The header of the cache, and what the next step is.
-#[derive(Drop)]
+#[derive(Clone, Copy)]
 struct Next {
     head: index::Cache,
     // how many steps are left, the next one included
@@ -404,7 +405,7 @@ fn after_read(w: &mut [u64; Place::END], left: u64, r: ListOutcome) -> Next
 
 // ---- the start
 
-#[derive(Drop)]
+#[derive(Clone, Copy)]
 struct Load {
     mode: u8,
     keep: i32,

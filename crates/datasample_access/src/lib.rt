@@ -1,4 +1,5 @@
 // datasample_cache.rs: read_by_keys and take_by_keys, over lent memory.
+#![tactic(auto)]
 ghost use Rattle.std.specs.Prelude.{◌≡◌, true, false};
 ghost use Rattle.store.specs.Store.{Store};
 ghost use Rattle.model.specs.Model.{Model};
@@ -9,14 +10,14 @@ ghost use Rattle.infos.specs.Words.{places_in, put_infos};
 ghost use Rattle.access.specs.Access.{run, infos_by, noted_all};
 ghost use Rattle.datasample_access.specs.Listed.{touched_all, ranking_of, Served, not_listed, Unfit, listed_with, listing, Came};
 
-#[derive(Drop)]
+#[derive(Clone, Copy)]
 pub enum Listed {
     // how many infos were written
     Infos(usize),
     Refused(u64),
 }
 
-#[derive(Drop)]
+#[derive(Clone, Copy)]
 pub struct ListOutcome {
     pub head: index::Cache,
     pub answer: Listed,

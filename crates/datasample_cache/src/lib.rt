@@ -1,4 +1,5 @@
 // datasample_cache.rs: setting up, adding, the no-writers event, the next key.
+#![tactic(auto)]
 ghost use Rattle.std.specs.Prelude.{◌≡◌, List, ℕ, ◌*◌, ◌<◌, ◌&&◌, leb};
 ghost use Rattle.store.specs.Store.{Store, adding};
 ghost use Rattle.plan.specs.Plan.{wanted};
@@ -16,13 +17,13 @@ ghost use Rattle.datasample_cache.specs.Others.{next_as, set_up_of, depth_for, k
 ghost use Rattle.datasample_cache.specs.Came.{Came, evicted_of, finished_by, Unfit, not_added};
 ghost use Rattle.datasample_cache.specs.Adding.{Decided, Decides, arrival, drawn_of, drawn_none};
 
-#[derive(Drop)]
+#[derive(Clone, Copy)]
 pub enum Evicted {
     Handle(u32),
     Nothing,
 }
 
-#[derive(Drop)]
+#[derive(Clone, Copy)]
 pub enum Added {
     Added {
         key: u64,
@@ -32,7 +33,7 @@ pub enum Added {
     Refused(u64),
 }
 
-#[derive(Drop)]
+#[derive(Clone, Copy)]
 pub struct AddOutcome {
     pub head: index::Cache,
     pub answer: Added,
@@ -40,7 +41,7 @@ pub struct AddOutcome {
 
 // An add worked out on numbers: the refusal (0 for none), the key, the slot to fill and the one that is pushed out (256 for none), and the counts
 // after the step.
-#[derive(Drop)]
+#[derive(Clone, Copy)]
 struct Decision {
     head: index::Cache,
     refusal: u64,
@@ -206,13 +207,13 @@ pub fn add(
 
 // ---- set-up
 
-#[derive(Drop)]
+#[derive(Clone, Copy)]
 pub enum Reply {
     Ok,
     Refused(u64),
 }
 
-#[derive(Drop)]
+#[derive(Clone, Copy)]
 pub struct SetUpOutcome {
     pub head: index::Cache,
     pub answer: Reply,

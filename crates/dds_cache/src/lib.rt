@@ -1,5 +1,6 @@
 // dds_cache.rs, the best-effort half of TopicCache: keep limits, adding, removal by count and the range.
 // The changes lie in lent words (crate changes); the cache itself is a small header that goes in and comes back.
+#![tactic(auto)]
 ghost use Rattle.std.specs.Prelude.{◌≡◌, List, [], ◌∷◌, ◌++◌, ◌-◌, ◌≤◌, ◌<◌, max, min, length, drop};
 ghost use Rattle.model.specs.Topic.{Entry, in_bounds, deeper, wider, defaults, may_for, removal, collect_every};
 ghost use Rattle.changes.specs.Places.{Holds, words_of, entry_of};
@@ -8,27 +9,27 @@ ghost use Rattle.dds_cache.specs.Header.{depth_of, limits_of, given, Limiting, C
 use changes::CacheChange;
 use keys::{Issued, Last};
 
-#[derive(Drop)]
+#[derive(Clone, Copy)]
 pub enum History {
     KeepAll,
     KeepLast(u32),
 }
 
 // How many changes are kept at least, and at most.
-#[derive(Drop)]
+#[derive(Clone, Copy)]
 pub struct KeepLimits {
     pub min_keep_samples: History,
     pub max_keep_samples: u32,
 }
 
 // The limits made, or refusal 2.
-#[derive(Drop)]
+#[derive(Clone, Copy)]
 pub enum Limited {
     Limits(KeepLimits),
     OutOfBounds,
 }
 
-#[derive(Drop)]
+#[derive(Clone, Copy)]
 pub struct TopicCache {
     pub limits: KeepLimits,
     // the largest key ever issued
@@ -37,27 +38,27 @@ pub struct TopicCache {
 }
 
 // A fresh cache, or refusal 2.
-#[derive(Drop)]
+#[derive(Clone, Copy)]
 pub enum Created {
     Cache(TopicCache),
     OutOfBounds,
 }
 
 // Raised, or refusal 2.
-#[derive(Drop)]
+#[derive(Clone, Copy)]
 pub enum Update {
     Raised,
     OutOfBounds,
 }
 
-#[derive(Drop)]
+#[derive(Clone, Copy)]
 pub struct Updated {
     pub cache: TopicCache,
     pub answer: Update,
 }
 
 // The key of the new change, "held already", refusal 1 or refusal 6.
-#[derive(Drop)]
+#[derive(Clone, Copy)]
 pub enum Added {
     Key(u64),
     HeldAlready,
@@ -65,14 +66,14 @@ pub enum Added {
     NoLaterKey,
 }
 
-#[derive(Drop)]
+#[derive(Clone, Copy)]
 pub struct Outcome {
     pub cache: TopicCache,
     pub answer: Added,
 }
 
 // The number of changes in the results, or refusal 9.
-#[derive(Drop)]
+#[derive(Clone, Copy)]
 pub enum Found {
     Changes(usize),
     TooShort,

@@ -1,1 +1,2 @@
 // No code: the demands, said of the code.
+#![tactic(auto)]

@@ -1,5 +1,6 @@
 // The frame of a program's input, a version byte and then records behind two length bytes each, and the way of its output. What standard input gives and
 // whether standard output takes it no contract can say; what is made of the bytes that came has one.
+#![tactic(auto)]
 ghost use Rattle.std.specs.Prelude.{◌≡◌, true, ◌+◌, ◌≤◌, ◌<◌, length};
 ghost use Rattle.records.specs.Format.{byte_at, number_at, too_long};
 ghost use Rattle.frames.specs.Pieces.{piece_of, version_of, Most};
@@ -7,7 +8,7 @@ ghost use Rattle.frames.specs.Pieces.{piece_of, version_of, Most};
 // ---- the input
 
 // What the input gave of the bytes that were asked for: how many came, and whether a read failed.
-#[derive(Drop)]
+#[derive(Clone, Copy)]
 pub struct Got {
     pub n: usize,
     pub failed: bool,
@@ -49,7 +50,7 @@ fn fill(buf: &mut [u8]) -> Got
 }
 
 // Whether a piece of the input came whole, or is cut off, or could not be read. Where it may end and nothing came, it is none of these.
-#[derive(Drop)]
+#[derive(Clone, Copy)]
 pub struct Piece {
     pub go: bool,
     pub cut: bool,
@@ -128,7 +129,7 @@ fn size_of(x: u16) -> usize
 }
 
 // A record, and how many bytes it has.
-#[derive(Drop)]
+#[derive(Clone, Copy)]
 pub struct Record {
     pub piece: Piece,
     pub size: usize,
@@ -159,7 +160,7 @@ pub fn next_record(two: &mut [u8], rec: &mut [u8]) -> Record
 // ---- the output
 
 // Whether the lines could be written, and how many bytes were handed over.
-#[derive(Drop)]
+#[derive(Clone, Copy)]
 pub struct Told {
     pub go: bool,
     pub size: usize,

@@ -1,4 +1,5 @@
 // datasample_cache.rs, make_sample_info: the info of a sample, with the ranks of its place; and infos as words of the lent result buffer.
+#![tactic(auto)]
 ghost use Rattle.std.specs.Prelude.{◌≡◌, ◌+◌, ◌≤◌, length, take, drop};
 ghost use Rattle.sampleinfo.specs.Counts.{total};
 ghost use Rattle.model.specs.Views.{view_of, rank_from};
@@ -27,7 +28,7 @@ fn view_state(imd: InstanceMetaData, counts: NotAliveGenerationCounts) -> ViewSt
 }
 
 // What the ranks of a list are counted from, in edition 1.
-#[derive(Drop)]
+#[derive(Clone, Copy)]
 pub struct Ranking {
     // the counts of the latest-keyed live sample of the cache
     pub mrs_generations: NotAliveGenerationCounts,
@@ -75,7 +76,7 @@ pub fn make_sample_info(s: Sample, imd: InstanceMetaData, ranks: Ranks) -> Info
 // ---- infos as words
 
 // Where each part of an info stands among its words.
-#[derive(Drop)]
+#[derive(Clone, Copy)]
 pub struct InfoWords {}
 
 impl InfoWords {

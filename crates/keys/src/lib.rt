@@ -1,16 +1,17 @@
 // The key rule, for the cache and for the topic cache.
+#![tactic(auto)]
 ghost use Rattle.std.specs.Prelude.{◌≡◌};
 ghost use Rattle.keys.specs.Keys.{key_of, topic_last};
 
 // The last key issued, if any was.
-#[derive(Drop)]
+#[derive(Clone, Copy)]
 pub enum Last {
     Never,
     Key(u64),
 }
 
 // The key of a new sample, or refusal 6.
-#[derive(Drop)]
+#[derive(Clone, Copy)]
 pub enum Issued {
     Key(u64),
     Refused,

@@ -1,4 +1,5 @@
 // What is asked of the cache and changes nothing: the next instance key, the slot of a pair, the slot of the latest sample.
+#![tactic(auto)]
 ghost use Rattle.std.specs.Prelude.{◌≡◌, cond, not, ◌&&◌, ◌+◌, ◌*◌, ◌<◌, ◌≤◌, get_or, length, ltb, eqb};
 ghost use Rattle.slots.specs.Bits.{bits_of, free_at};
 ghost use Rattle.store.specs.Store.{Store, next_name, slot_named, cell_keyed, slot_keyed, later_slot, greatest_from, latest_slot, inst_at};
@@ -11,7 +12,7 @@ use slots::Free;
 
 // ---- the next instance key
 
-#[derive(Drop)]
+#[derive(Clone, Copy)]
 pub enum Next {
     Key(u64),
     Nothing,

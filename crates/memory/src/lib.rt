@@ -1,1 +1,2 @@
 // No code: what lies in memory for a cache of the model.
+#![tactic(auto)]

@@ -43,11 +43,13 @@ latest-in (s ∷ ss) = go (latest ss) (latest-in ss)
     up : {a b c : ℕ} → a ≤ b → b ≤ c → a ≤ c
     up p q = omega arith
 
+    chosen : (t : Live) → LatestIn ss (some t) → (b : Bool) → ltb s.key t.key ≡ b → LatestIn (s ∷ ss) (some (cond b t s))
+    chosen t h true e = (inr h.0, most t (omega (arith, ltb-true s.key t.key e)) h.1)
+    chosen t h false e = (inl refl, most s (omega arith) (λ x q. up (h.1 x q) (ltb-false s.key t.key e)))
+
     go : (o : Option Live) → LatestIn ss o → LatestIn (s ∷ ss) (later o s)
     go none h = (inl refl, most s (omega arith) (λ x q. absurd (h x q)))
-    go (some t) h = split (ltb s.key t.key)
-        (λ e. rw e (inr h.0, most t (omega (arith, ltb-true s.key t.key e)) h.1))
-        (λ e. rw e (inl refl, most s (omega arith) (λ x q. up (h.1 x q) (ltb-false s.key t.key e))))
+    go (some t) h = chosen t h (ltb s.key t.key) refl
 
 -- ---- the live samples of the whole cache are those of its instances
 in_lives : (is : List Instance) (i : Instance) (s : Live) → In i is → In s (live_in i.places) → In s (lives is)

@@ -157,7 +157,7 @@ places-none (some d) = sym (append-nil (replicate d gone))
 pub places-push : (d : Option ℕ) (es : List Entry) (e : Entry) → push d (places_of d es) (place_of e) ≡ places_of d (es ++ e ∷ [])
 unfolding places_of push
 places-push none es e = rw map-append
-places-push (some d) es e = rw (length-append, map-append, ← append_assoc, ← drop-drop, drop-append-le (length es) (replicate d gone ++ map place_of es) (place_of e ∷ []) (simp (length-append, length-replicate, length-map) (omega arith)))
+places-push (some d) es e = rw (length-append, map-append place_of es (e ∷ []), ← append_assoc, ← drop-drop, drop-append-le (length es) (replicate d gone ++ map place_of es) (place_of e ∷ []) (simp (length-append, length-replicate, length-map) (omega arith)))
 
 pub touch-place : (t : Bool) (n : ℕ) (ps : List Pair) (e : Entry) → touch t n ps (place_of e) ≡ place_of (touch_entry t n ps e)
 touch-place true n ps e = split e.taken

@@ -1,4 +1,5 @@
 // An add, decided and written on numbers alone: the key, the instance's row, its lifecycle step, the slot.
+#![tactic(auto)]
 ghost use Rattle.std.specs.Prelude.{◌≡◌, cond, ◌&&◌, ℕ, ◌+◌, ◌*◌, ◌<◌, ◌≤◌, get_or, ltb, leb, eqb};
 ghost use Rattle.store.specs.Store.{Store, Inst, adding, keying, placing, fresh_inst};
 ghost use Rattle.index.specs.Words.{cells_in};
@@ -11,7 +12,7 @@ use sampleinfo::{InstanceMetaData, InstanceState, NotAliveGenerationCounts, Step
 use slots::Free;
 
 // The slot that was pushed out is 256 where there is none; the counts are those after the step.
-#[derive(Drop)]
+#[derive(Clone, Copy)]
 pub enum Answer {
     Added {
         key: u64,
@@ -22,7 +23,7 @@ pub enum Answer {
     Refused(u64),
 }
 
-#[derive(Drop)]
+#[derive(Clone, Copy)]
 pub struct Outcome {
     pub head: Cache,
     pub answer: Answer,

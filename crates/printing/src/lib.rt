@@ -1,4 +1,5 @@
 // The lines that the session program prints, laid into a lent buffer of bytes.
+#![tactic(auto)]
 ghost use Rattle.std.specs.Prelude.{◌≡◌, ◌∷◌, [], ◌++◌, ◌+◌, ◌-◌, ◌≤◌, length};
 ghost use Rattle.text.specs.Text.{decimal_of, signed_of};
 ghost use Rattle.model.specs.Model as model;
@@ -15,7 +16,7 @@ const NEWLINE: u8 = 10;
 pub const LINE_ROOM: usize = 256;
 
 // A handle that was pushed out, or the next key; or none.
-#[derive(Drop)]
+#[derive(Clone, Copy)]
 pub enum Maybe {
     Number(u64),
     None,

@@ -1,4 +1,5 @@
 // readcondition.rs: which samples are to be read or taken.
+#![tactic(auto)]
 ghost use Rattle.std.specs.Prelude.{◌≡◌};
 ghost use Rattle.sampleinfo.specs.States.{sample_bit, view_bit, instance_bit};
 ghost use Rattle.readcondition.specs.Masks.{has, chosen_by, is_valid, condition_number, valid_number, any_condition, not_read};
@@ -6,7 +7,7 @@ ghost use Rattle.readcondition.specs.Masks.{has, chosen_by, is_valid, condition_
 use sampleinfo::{InstanceState, SampleState, ViewState};
 
 // A mask of bits for each of a sample's three states.
-#[derive(Drop)]
+#[derive(Clone, Copy)]
 pub struct ReadCondition {
     pub sample_state_mask: u8,
     pub view_state_mask: u8,

@@ -1,4 +1,5 @@
 // The records of a session: a record's bytes, without its two length bytes, to a request.
+#![tactic(auto)]
 ghost use Rattle.std.specs.Prelude.{◌≡◌, [], ◌+◌, ◌*◌, ◌≤◌, length};
 ghost use Rattle.records.specs.Format.{byte_at, number_at, twos, bytes_at, masks_at, instance_in, set_up_in, arrival_in, writer_in, count_in, list_size, sized_op, op_in, request_of, count_of, list_count, call_meant, bad};
 ghost use Rattle.records.specs.Words.{words_in, laid_in};
@@ -9,7 +10,7 @@ use readcondition::ReadCondition;
 use sampleinfo::BodyMade;
 
 // The fields of a set-up.
-#[derive(Drop)]
+#[derive(Clone, Copy)]
 pub struct SetUp {
     pub mode: u8,
     pub keep: i32,
@@ -17,7 +18,7 @@ pub struct SetUp {
 }
 
 // The fields of an add, but for the writer.
-#[derive(Drop)]
+#[derive(Clone, Copy)]
 pub struct Arrival {
     pub instance: u64,
     pub sequence_number: u64,
@@ -27,7 +28,7 @@ pub struct Arrival {
 }
 
 // A list record gives its count here, and its pairs by pairs_of.
-#[derive(Drop)]
+#[derive(Clone, Copy)]
 pub enum Op {
     SetUp(SetUp),
     Add(Arrival),
@@ -41,7 +42,7 @@ pub enum Op {
 }
 
 // The operation, and the writer of an add beside it, since an enum holds no array; of another operation the writer says nothing.
-#[derive(Drop)]
+#[derive(Clone, Copy)]
 pub struct Request {
     pub op: Op,
     pub writer: [u8; 16],

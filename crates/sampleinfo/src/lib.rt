@@ -1,4 +1,6 @@
 // sampleinfo.rs: the states of a sample, its view and its instance, the generation counts, the records that hold them, and the lifecycle step.
+#![tactic(auto)]
+
 ghost use Rattle.std.specs.Prelude.{◌≡◌, ◌<◌};
 ghost use Rattle.sampleinfo.specs.States.{sample_bit, view_bit, instance_bit, instance_of_bit, kind_of, handle_of, made_by, body_of, body_number, kind_number, any_sample, any_view, any_instance, not_alive};
 ghost use Rattle.sampleinfo.specs.Formed.{seq_fits, arrived_body};
@@ -6,19 +8,19 @@ ghost use Rattle.sampleinfo.specs.Counts.{zero, total, disposed_plus, no_writers
 ghost use Rattle.sampleinfo.specs.Lifecycle.{new_instance, with_state, is_last, lifecycle_of, lifecycle_number, stepped_of, stepped_number, no_writers_of};
 ghost use Rattle.sampleinfo.specs.Samples.{empty_sample, marked_read, sample_state_of, total_of};
 
-#[derive(Drop)]
+#[derive(Clone, Copy)]
 pub enum SampleState {
     Read,
     NotRead,
 }
 
-#[derive(Drop)]
+#[derive(Clone, Copy)]
 pub enum ViewState {
     New,
     NotNew,
 }
 
-#[derive(Drop)]
+#[derive(Clone, Copy)]
 pub enum InstanceState {
     Alive,
     NotAliveDisposed,
@@ -26,27 +28,27 @@ pub enum InstanceState {
 }
 
 // A double counter for counting how many times an instance has become Alive.
-#[derive(Drop)]
+#[derive(Clone, Copy)]
 pub struct NotAliveGenerationCounts {
     pub disposed_generation_count: u32,
     pub no_writers_generation_count: u32,
 }
 
 // The handle of a value, or of a dispose.
-#[derive(Drop)]
+#[derive(Clone, Copy)]
 pub enum Body {
     Value(u32),
     Dispose(u32),
 }
 
-#[derive(Drop)]
+#[derive(Clone, Copy)]
 pub enum BodyMade {
     Body(Body),
     Refused,
 }
 
 // What a slot of the sample table holds; its key and its instance stand in the index.
-#[derive(Drop)]
+#[derive(Clone, Copy)]
 pub struct Sample {
     // a snapshot of the instance's counts at the time this sample was received
     pub generation_counts: NotAliveGenerationCounts,
@@ -57,7 +59,7 @@ pub struct Sample {
 }
 
 // The instance record, which is lent to the lifecycle step.
-#[derive(Drop)]
+#[derive(Clone, Copy)]
 pub struct InstanceMetaData {
     pub instance_state: InstanceState,
     pub latest_generation_available: NotAliveGenerationCounts,
@@ -65,14 +67,14 @@ pub struct InstanceMetaData {
     pub last_generation_accessed: u64,
 }
 
-#[derive(Drop)]
+#[derive(Clone, Copy)]
 pub enum Stepped {
     Now(InstanceMetaData),
     Refused,
 }
 
 // The ranks that an info shows of its place in a list.
-#[derive(Drop)]
+#[derive(Clone, Copy)]
 pub struct Ranks {
     pub sample_rank: u64,
     pub generation_rank: i64,
@@ -80,7 +82,7 @@ pub struct Ranks {
 }
 
 // SampleInfo: the printed fields, the writer and the sequence number.
-#[derive(Drop)]
+#[derive(Clone, Copy)]
 pub struct Info {
     pub body: Body,
     pub sample_state: SampleState,

@@ -1,4 +1,5 @@
 // A session: a record is answered by the cache that stands, and its lines are laid into a lent buffer.
+#![tactic(auto)]
 ghost use Rattle.std.specs.Prelude.{◌≡◌, List, ℕ, ◌<◌, length};
 ghost use Rattle.std.proofs.Math.Option.{Option};
 ghost use Rattle.model.specs.Model as model;
@@ -18,7 +19,7 @@ use records::Request;
 use replies::{Replied, Session};
 
 // The session after a record, and how many bytes of the lent buffer answer it.
-#[derive(Drop)]
+#[derive(Clone, Copy)]
 pub struct Answered {
     pub session: Session,
     pub size: usize,

@@ -1,5 +1,6 @@
 // The session program: records on standard input, their lines on standard output. It owns the sample table and the index, and answers each record
 // before it waits for the next one. With --full it also prints the writer and the sequence number of each info, for the comparison with the Rust.
+#![tactic(auto)]
 ghost use Rattle.std.specs.Prelude.{◌≤◌, ◌<◌, ◌≡◌, length};
 ghost use Rattle.std.proofs.Math.Option.{Option};
 ghost use Rattle.sampleinfo.specs.Samples.{empty_sample};
@@ -112,7 +113,7 @@ fn over(piece: Piece) {
 
 // ---- a record
 
-#[derive(Drop)]
+#[derive(Clone, Copy)]
 struct After {
     session: Session,
     go: bool,
@@ -191,7 +192,7 @@ fn is_full(word: &[u8]) -> bool {
     true
 }
 
-#[derive(Drop)]
+#[derive(Clone, Copy)]
 struct Asked {
     known: bool,
     full: bool,
@@ -222,7 +223,7 @@ fn usage() {
 // ---- the session
 
 // How many records the session may have, and whether it also tells the writers.
-#[derive(Drop)]
+#[derive(Clone, Copy)]
 struct Begun {
     turns: u64,
     full: bool,

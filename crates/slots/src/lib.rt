@@ -1,9 +1,10 @@
 // The free slots: one bit each in four words; the number free and the lowest come from counting bits.
+#![tactic(auto)]
 ghost use Rattle.std.specs.Prelude.{◌≡◌, ◌+◌, ◌<◌, set, replicate};
 ghost use Rattle.slots.specs.Bits.{bits_of, total, first_one, slot_for, free_at};
 
 // The free slots of 256: one bit each, set where the slot is free, in four words from the lowest bit up.
-#[derive(Drop)]
+#[derive(Clone, Copy)]
 pub struct Free {
     pub words: [u64; 4],
 }

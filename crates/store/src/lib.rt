@@ -1,1 +1,2 @@
 // No code: the definitions stand in specs/.
+#![tactic(auto)]

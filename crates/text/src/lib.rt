@@ -1,9 +1,10 @@
 // Numbers as decimal text, at the end of a small array, and bytes laid into a lent buffer.
+#![tactic(auto)]
 ghost use Rattle.std.specs.Prelude.{◌≡◌, ◌∷◌, [], ◌+◌, leb, nat_abs};
 ghost use Rattle.text.specs.Text.{is_neg, decimal_of, signed_of, number_of, text_of, written, place_after};
 
 // The text of a number, at the end of 21 bytes from place from on; 0 before it.
-#[derive(Drop)]
+#[derive(Clone, Copy)]
 pub struct Number {
     pub bytes: [u8; 21],
     pub from: usize,

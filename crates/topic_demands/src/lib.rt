@@ -1,1 +1,2 @@
 // No code: calls in a row, said of the topic cache's code.
+#![tactic(auto)]

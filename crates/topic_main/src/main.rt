@@ -1,5 +1,6 @@
 // A program over the topic cache, for the comparison with the Rust (oracle/src/topic/format.rs): records on standard input, lines on standard
 // output. It owns the words of the cache, and answers each record before it waits for the next.
+#![tactic(auto)]
 ghost use Rattle.std.specs.Prelude.{◌≤◌};
 
 use changes::{CacheChange, Kept};
@@ -13,7 +14,7 @@ const SPACE: u8 = 32;
 const NEWLINE: u8 = 10;
 
 // The cache is asked only once a new was accepted.
-#[derive(Drop)]
+#[derive(Clone, Copy)]
 struct Session {
     cache: TopicCache,
     ready: bool,
@@ -230,7 +231,7 @@ fn over(piece: Piece) {
     frames::checked(!piece.failed, b"topic_main: read");
 }
 
-#[derive(Drop)]
+#[derive(Clone, Copy)]
 struct After {
     session: Session,
     go: bool,

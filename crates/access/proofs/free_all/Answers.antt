@@ -1,0 +1,14 @@
+-- The slots passed are free.
+use Rattle.std.proofs.Common.{rules}
+use Prim.Native.Nat.{◌-◌}
+use Rattle.access.specs.AccessLaws.{frees-start, frees-on, frees-end}
+use Rattle.access.proofs.free_all.Goals as goal
+
+pub loop-p-init : goal.loop-p-init
+loop-p-init c = search (rules, frees-start, frees-on, frees-end)
+
+pub loop-p-preserved : goal.loop-p-preserved
+loop-p-preserved c = search (rules, frees-start, frees-on, frees-end)
+
+pub returns : goal.returns
+returns c = search (rules, frees-start, frees-on, frees-end)

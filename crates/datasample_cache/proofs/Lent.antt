@@ -1,2 +1,0 @@
-pub mod add
-pub mod set_up

@@ -1,2 +1,0 @@
-pub mod choose
-pub mod choose_within

@@ -1,0 +1,10 @@
+-- A store in the region, or none past its end.
+use Rattle.std.proofs.Common.{rules}
+use Rattle.index.specs.WordLaws.{store_in, store-past}
+use Rattle.index.proofs.put_cell.Goals as goal
+
+pub returns-then-i-lt256 : goal.returns-then-i-lt256
+returns-then-i-lt256 c = search (rules, store_in)
+
+pub returns-else-i-lt256 : goal.returns-else-i-lt256
+returns-else-i-lt256 c = search (rules, store-past)

@@ -1,0 +1,20 @@
+use Rattle.std.proofs.Common.{rules}
+use native.Mathlib.Omega.{arith}
+use lib.ListN.{length-set}
+use Rattle.infos.specs.PutLaws.{states-put}
+use Rattle.infos.proofs.put_states.Goals as goal
+
+pub bounds-out-at-2 : goal.bounds-out-at-2
+bounds-out-at-2 c = simp length-set (omega arith)
+
+pub bounds-out-at-3 : goal.bounds-out-at-3
+bounds-out-at-3 c = simp length-set (omega arith)
+
+pub bounds-out-at-4 : goal.bounds-out-at-4
+bounds-out-at-4 c = simp length-set (omega arith)
+
+pub bounds-out-at-5 : goal.bounds-out-at-5
+bounds-out-at-5 c = simp length-set (omega arith)
+
+pub returns : goal.returns
+returns c = search (rules, states-put)

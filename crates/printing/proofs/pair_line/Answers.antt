@@ -1,0 +1,9 @@
+use Rattle.std.proofs.Common.{rules}
+use Rattle.printing.specs.LineLaws.{line_kept, pair-done}
+use Rattle.printing.proofs.pair_line.Goals as goal
+
+pub returns-then-left-lt-LINE_ROOM : goal.returns-then-left-lt-LINE_ROOM
+returns-then-left-lt-LINE_ROOM c = search (rules, line_kept, pair-done)
+
+pub returns : goal.returns
+returns c = search (rules, pair-done)

@@ -1,0 +1,4 @@
+use Rattle.samples.proofs.put_seen.Goals as goal
+
+pub returns : goal.returns
+returns c = cc

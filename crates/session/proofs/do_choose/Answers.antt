@@ -1,0 +1,6 @@
+use Rattle.std.proofs.Common.{rules}
+use Rattle.session.specs.CallLaws.{choose-answers}
+use Rattle.session.proofs.do_choose.Goals as goal
+
+pub returns : goal.returns
+returns c = search (rules, choose-answers)
