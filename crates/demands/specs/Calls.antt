@@ -28,14 +28,14 @@ use Rattle.datasample_cache.specs.declared.SetUpOutcome.{SetUpOutcome}
 use Rattle.datasample_access.specs.Listed as list
 use Rattle.datasample_access.specs.Listed.{listing}
 use Rattle.datasample_access.specs.declared.ListOutcome.{ListOutcome}
-use Rattle.datasample_cache.proofs.Lent.add.Reads as of-add
-use Rattle.datasample_cache.proofs.Lent.set_up.Reads as of-set-up
+use Rattle.datasample_cache.proofs.add.Reads as of-add
+use Rattle.datasample_cache.proofs.set_up.Reads as of-set-up
 use Rattle.datasample_cache.proofs.no_writers.Reads as of-no-writers
 use Rattle.datasample_cache.proofs.next_key.Reads as of-next-key
-use Rattle.datasample_select.proofs.Lent.choose.Reads as of-choose
-use Rattle.datasample_select.proofs.Lent.choose_within.Reads as of-choose-within
-use Rattle.datasample_access.proofs.Lent.read_by_keys.Reads as of-read
-use Rattle.datasample_access.proofs.Lent.take_by_keys.Reads as of-take
+use Rattle.datasample_select.proofs.choose.Reads as of-choose
+use Rattle.datasample_select.proofs.choose_within.Reads as of-choose-within
+use Rattle.datasample_access.proofs.read_by_keys.Reads as of-read
+use Rattle.datasample_access.proofs.take_by_keys.Reads as of-take
 use Rattle.demands.specs.Meets.{Memory, Holds, Seen, Meets, Stays, said, shown}
 
 abbrev pub holding : Cache → Bor (List ℕ) → Bor (List Sample) → Memory
