@@ -1,9 +1,9 @@
 -- No contract of this crate leaves a choice, and the words lose nothing of the entries.
-use Rattle.std.specs.Prelude.{◌≡◌, refl, List, ℕ, ◌<◌, length, get_or}
+use Rattle.std.specs.Prelude.{◌≡◌, List, ℕ, ◌<◌, length, get_or}
 use Rattle.std.proofs.Common.{sym, ap, ◌∙◌, arith, ext_get_or}
 use Rattle.model.specs.Topic.{Entry}
 use Rattle.changes.specs.declared.Row.{Row}
-use Rattle.changes.specs.Places.{none, row_of, row_at, half, guid_of, Writer, Written, Holds}
+use Rattle.changes.specs.Places.{none, row_of, guid_of, Writer, Written, Holds}
 use Rattle.changes.specs.WordLaws.{row-at}
 use Rattle.changes.specs.ResultLaws.{guid-back}
 

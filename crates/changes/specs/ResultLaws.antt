@@ -8,7 +8,6 @@ use Rattle.std.proofs.lemmas.Bool.{lt-leb}
 use Rattle.std.proofs.Math.ListN.{length, get_or, length-map, get_or-append}
 use Rattle.lists.specs.Blocks.{flat, Even, even-map, flat-get, get-map}
 use Rattle.model.specs.Topic.{Entry}
-use Rattle.changes.specs.declared.Row.{Row}
 use Rattle.changes.specs.declared.Kept.{Kept}
 use Rattle.changes.specs.Places.{none, pack, half, Bytes, Writer, Written, Holds, line_of, row_of, row_at, shown_in, unpack, with_half, guid_of, entry_in, entries_in, kept_of, kept_at, nothing_kept}
 use Rattle.changes.specs.WriterLaws.{bytes_take, bytes_drop}

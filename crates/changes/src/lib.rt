@@ -1,6 +1,7 @@
 // The places of a topic cache in lent numbers: 384 of six words each, the oldest change first from place 0, zeros behind the last.
 // They stand for the map `changes` and its index `sequence_numbers` of dds_cache.rs.
 #![tactic(auto)]
+
 ghost use Rattle.std.specs.Prelude.{◌≡◌, ◌&&◌, cond, List, [], ◌∷◌, ◌++◌, ◌+◌, ◌*◌, ◌%◌, ◌<◌, ◌≤◌, ltb, leb, eqb, length, drop};
 ghost use Rattle.model.specs.Topic.{Entry, count_below, holds_pair};
 ghost use Rattle.changes.specs.Places.{table_size, half, Writer, Written, Holds, words_of, entry_of, row_of, put_row, moved_down, cleared, copied_row, Ranging, Copying, with_half, guid_of, nothing_kept, kept_at};

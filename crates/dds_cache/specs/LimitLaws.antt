@@ -117,6 +117,8 @@ module _ (l : Limits) (es : List Entry) (sn size m r : ℕ) (e : m ≡ collect_e
     unfolding drops_for
     drops-none f = rw (← e, ne_eqb (sn % m) 0 n, lt-leb places (length es) (omega arith))
 
+pub ruleset drops = (every-pos, drops-step, drops-full, drops-none)
+
 -- ---- the step by the payload's length, by the tests that the code makes
 
 pub every-small : (size n : ℕ) → size < n → T (leb n 1025) → 64 ≡ collect_every size

@@ -1,6 +1,7 @@
 // dds_cache.rs, the best-effort half of TopicCache: keep limits, adding, removal by count and the range.
 // The changes lie in lent words (crate changes); the cache itself is a small header that goes in and comes back.
 #![tactic(auto)]
+
 ghost use Rattle.std.specs.Prelude.{◌≡◌, List, [], ◌∷◌, ◌++◌, ◌-◌, ◌≤◌, ◌<◌, max, min, length, drop};
 ghost use Rattle.model.specs.Topic.{Entry, in_bounds, deeper, wider, defaults, may_for, removal, collect_every};
 ghost use Rattle.changes.specs.Places.{Holds, words_of, entry_of};
@@ -119,6 +120,7 @@ impl KeepLimits {
     }
 
     // If a definite minimum is specified, max_samples is at least that.
+    #[tactic(auto, unfolding(crate::specs::Header::new_limits, model::specs::Topic::limits_fit))]
     pub fn new(history: History, max_samples: u32) -> Limited
         ensures { Limiting (given history max_samples) result }
     {
@@ -318,6 +320,7 @@ impl TopicCache {
     }
 
     // How many changes the collection before an add drops: none if there is no collection.
+    #[tactic(auto, using(crate::specs::LimitLaws::drops))]
     fn collect_count(self, words: &[u64; CacheChange::TABLE], sn: u64, payload_size: u32) -> usize
         ensures { (result ≤ self.held) × ((es : List Entry) → Holds es self.held words.now → result ≡ drops_for (limits_of self.limits) es sn payload_size) }
     {

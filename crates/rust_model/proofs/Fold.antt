@@ -73,10 +73,13 @@ module _ {R : Type 0} (F : Kept → R → R) where
     unfolding fold_log
     fold-both p q d r [] h = refl
     fold-both p q d r (k ∷ log) h = split (p k.name)
-        (λ e. rw (e, d k.name e) (ap (F k) (fold-both p q d r log h.1)))
+        (λ e. let inner : fold_log q r (k ∷ log) ≡ fold_log q r log = rw (d k.name e) in
+        rw e (ap (λ (x : R). F k (fold_log p x log)) inner ∙ ap (F k) (fold-both p q d r log h.1)))
         (λ e. split (q k.name)
-        (λ f. rw (e, f) (fold-move p k (fold_log q r log) log h.0 ∙ ap (F k) (fold-both p q d r log h.1)))
-        (λ f. rw (e, f) (fold-both p q d r log h.1)))
+        (λ f. let inner : fold_log q r (k ∷ log) ≡ F k (fold_log q r log) = rw f in
+        rw (e, f) (ap (λ (x : R). fold_log p x log) inner ∙ fold-move p k (fold_log q r log) log h.0 ∙ ap (F k) (fold-both p q d r log h.1)))
+        (λ f. let inner : fold_log q r (k ∷ log) ≡ fold_log q r log = rw f in
+        rw (e, f) (ap (λ (x : R). fold_log p x log) inner ∙ fold-both p q d r log h.1)))
 
     -- instance by instance
     unfoldable pub gather : R → List Kept → List Instance → R

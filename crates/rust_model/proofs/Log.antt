@@ -1,12 +1,12 @@
 -- Laws of the log.
-use Rattle.std.proofs.Common.{◌≡◌, ℕ, ◌+◌, ◌-◌, ◌<◌, ◌≤◌, true, false, cond, eqb, List, [], ◌∷◌, ◌++◌, length, drop, sym, refl, ap, ◌∙◌, arith, eqb-true}
+use Rattle.std.proofs.Common.{◌≡◌, ℕ, ◌+◌, ◌-◌, ◌<◌, ◌≤◌, true, false, cond, eqb, List, [], ◌∷◌, ◌++◌, length, drop, sym, refl, subst, ap, ◌∙◌, arith, eqb-true}
 use mathlib.Core.Option.{Option, some, none}
 use Rattle.model.specs.Model.{Instance, live_in}
 use Rattle.model.specs.Story.{Entry as Told, Every, untaken, entry_keys, last_by}
 use Rattle.model.proofs.Laws.{places_of, places-hold}
 use Rattle.model.specs.PairLaws.{split}
 use Rattle.rust_model.specs.Maps.{Entry, entry, get, remove}
-use Rattle.rust_model.specs.DataSampleCache.{SampleWithMetaData}
+use Rattle.rust_model.specs.DataSampleCache.{SampleWithMetaData, DataSamples}
 use Rattle.rust_model.proofs.MapLaws.{same-eqb, above-eqb, get_none, remove-none}
 use Rattle.rust_model.proofs.Alike.{Kept, key_at, mine, stored, samples, Rising, Few}
 
@@ -63,9 +63,14 @@ pub get-samples : (log : List Kept) → Rising log → Every (λ k. get (key_at 
 unfolding samples get
 get-samples [] r = tt
 get-samples (k ∷ log) r = split k.told.taken
-    (λ q. rw q (get_none (key_at k) (samples log) (every-samples (λ j. key_at k < j) log r.0), get-samples log r.1))
-    (λ q. rw q (rw same-eqb, past (samples log) log r.0 (get-samples log r.1)))
+    (λ q. let same : samples (k ∷ log) ≡ samples log = rw q in
+        subst Found (sym same) (rw q (get_none (key_at k) (samples log) (every-samples (λ j. key_at k < j) log r.0)), get-samples log r.1))
+    (λ q. let same : samples (k ∷ log) ≡ entry (key_at k) (stored k) ∷ samples log = rw q in
+        subst Found (sym same) (rw (q, same-eqb), past (samples log) log r.0 (get-samples log r.1)))
   where
+    Found : DataSamples → Type 0
+    Found m = Every (λ j. get (key_at j) m ≡ sample_at j) (k ∷ log)
+
     past : (m : List (Entry SampleWithMetaData)) (l : List Kept) → Every (λ j. key_at k < key_at j) l → Every (λ j. get (key_at j) m ≡ sample_at j) l
         → Every (λ j. cond (eqb (key_at k) (key_at j)) (some (stored k)) (get (key_at j) m) ≡ sample_at j) l
     past m [] h g = tt

@@ -5,7 +5,7 @@
 use Rattle.std.specs.Prelude.{◌≡◌, refl, Bool, true, false, cond, List, [], ◌∷◌, ◌++◌, ℕ, ◌/◌, ◌≤◌, leb, length}
 use Rattle.std.proofs.Common.{sym, ap, ◌∙◌}
 use contract.Lifetimes.{Lfts}
-use Rattle.std.specs.Borrow.{Bor}
+use Rattle.std.specs.Borrow.{Bor, MutBor}
 use Rattle.model.specs.Topic.{Topic, Entry, Limits, Call, update, add, remove_before, range, Answer, ok, found, Step, refuse, places, limits_fit, raised, wider, within, fresh, step}
 use Rattle.model.specs.TopicPromises.{run, key_in, issued_by, Rises, keys_of, times, Higher, TopicPromises}
 use Rattle.model.proofs.Topic.{topic-promises}
@@ -72,20 +72,20 @@ keys_seen (a ∷ ss) = key_in (answer_in a) ++ keys_seen ss
 -- ---- calls of the code; a primed reference is one after the call, `κs` are the lifetimes of the references
 
 pub data Begun : Limits → Memory → Type 0 where
-  new : (κs : Lfts 1) (history : History) (most : ℕ) (ws ws' : Bor (List ℕ)) (h : TopicCache)
+  new : (κs : Lfts 1) (history : History) (most : ℕ) (ws ws' : MutBor (List ℕ)) (h : TopicCache)
       → of-new.Learnt κs (history, (most, (ws, tt))) (created.Cache h) (history, (most, (ws', tt))) → Begun (given history most) (holding h ws'.now)
 
 pub data Called : Call → Memory → Seen → Memory → Type 0 where
   update-keep-limits : (κs : Lfts 0) (h : TopicCache) (ws : List ℕ) (history : History) (most : ℕ) (r : Updated)
       → of-update.Learnt κs (h, (history, (most, tt))) r (h, (history, (most, tt)))
       → Called (update (given history most)) (holding h ws) (said (update_of r.answer)) (holding r.cache ws)
-  add-change : (κs : Lfts 1) (h : TopicCache) (ws ws' : Bor (List ℕ)) (time : ℕ) (x : CacheChange) (r : Outcome)
+  add-change : (κs : Lfts 1) (h : TopicCache) (ws ws' : MutBor (List ℕ)) (time : ℕ) (x : CacheChange) (r : Outcome)
       → of-add.Learnt κs (h, (ws, (time, (x, tt)))) r (h, (ws', (time, (x, tt))))
       → Called (add (change_of time x)) (holding h ws.now) (said (added_of r.answer)) (holding r.cache ws'.now)
-  remove-changes-before : (κs : Lfts 1) (h : TopicCache) (ws ws' : Bor (List ℕ)) (time : ℕ) (r : TopicCache)
+  remove-changes-before : (κs : Lfts 1) (h : TopicCache) (ws ws' : MutBor (List ℕ)) (time : ℕ) (r : TopicCache)
       → of-remove.Learnt κs (h, (ws, (time, tt))) r (h, (ws', (time, tt)))
       → Called (remove_before time) (holding h ws.now) (said ok) (holding r ws'.now)
-  get-changes-in-range : (κs : Lfts 2) (h : TopicCache) (ws : Bor (List ℕ)) (start end : ℕ) (out out' : Bor (List ℕ)) (r : Found)
+  get-changes-in-range : (κs : Lfts 2) (h : TopicCache) (ws : Bor (List ℕ)) (start end : ℕ) (out out' : MutBor (List ℕ)) (r : Found)
       → of_range.Learnt κs (h, (ws, (start, (end, (out, tt))))) r (h, (ws, (start, (end, (out', tt)))))
       → Called (range start end (length out.now / 6)) (holding h ws.now) (listed r out.now out'.now) (holding h ws.now)
 

@@ -1,6 +1,7 @@
 // The records of a program over the topic cache (oracle/src/topic/format.rs): a record's bytes, without its two length bytes, to what it
 // asks for; and a writer as digits.
 #![tactic(auto)]
+
 ghost use Rattle.std.specs.Prelude.{◌≡◌, ◌/◌, ◌%◌, ◌<◌};
 ghost use Rattle.topic_records.specs.Format.{digit_of, hex_text, change_in, history_asked, most_asked, history_in, most_in, tags_fit, op_in, sized_op, limits_op, sequence_in, add_op, ten_unless, refusal_for};
 

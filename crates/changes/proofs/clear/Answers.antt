@@ -1,5 +1,4 @@
 use native.Mathlib.Omega.{arith}
-use Prim.Native.Nat.{◌-◌}
 use Rattle.changes.specs.WordLaws.{clear-start, clear-turn, clear-end}
 use Rattle.changes.proofs.clear.Goals as goal
 

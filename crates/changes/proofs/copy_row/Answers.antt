@@ -19,9 +19,6 @@ bounds-out-b-then-b-out-4 c = simp length-set (omega arith)
 pub bounds-out-b-then-b-out-5 : goal.bounds-out-b-then-b-out-5
 bounds-out-b-then-b-out-5 c = simp length-set (omega arith)
 
-pub UNKNOWN-same-length : goal.UNKNOWN-same-length
-UNKNOWN-same-length c = simp length-set
-
 pub returns-then-b-out : goal.returns-then-b-out
 unfolding copied_row
 returns-then-b-out c = rw (le-leb _ _ c.if-b-out.true)

@@ -1,5 +1,4 @@
 use native.Mathlib.Omega.{arith}
-use Prim.Native.Nat.{◌-◌}
 use Rattle.changes.specs.LookLaws.{below-start, below-turn, below_end}
 use Rattle.changes.proofs.count_below.Goals as goal
 

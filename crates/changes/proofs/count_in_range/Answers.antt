@@ -1,6 +1,5 @@
 use native.Mathlib.Omega.{arith}
 use mathlib.Core.Path.{refl}
-use Prim.Native.Nat.{◌-◌}
 use Rattle.changes.specs.LookLaws.{range-start, range-turn, range-end, none-counted}
 use Rattle.changes.proofs.count_in_range.Goals as goal
 

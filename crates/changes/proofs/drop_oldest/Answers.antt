@@ -12,4 +12,4 @@ pub returns-then-held-n : goal.returns-then-held-n
 returns-then-held-n c = λ es h k. absurd (omega arith)
 
 pub returns : goal.returns
-returns c = λ es h k. removed es _ _ _ c.move_down.new.0 _ h k c.move_down.ensures c.clear.ensures
+returns c = λ es h k. removed es _ _ _ c.move_down.new.words _ h k c.move_down.ensures c.clear.ensures

@@ -1,5 +1,4 @@
 use native.Mathlib.Omega.{arith}
-use Prim.Native.Nat.{◌-◌}
 use Rattle.changes.specs.LookLaws.{sought-start, sought-stop, sought-end, sought-hit, sought-turn}
 use Rattle.changes.proofs.holds_pair.Goals as goal
 

@@ -1,5 +1,4 @@
 use native.Mathlib.Omega.{arith}
-use Prim.Native.Nat.{◌-◌}
 use Rattle.changes.specs.WordLaws.{moved-start, moved-turn, moved-end}
 use Rattle.changes.proofs.move_down.Goals as goal
 
