@@ -5,7 +5,7 @@ use Rattle.std.specs.Prelude.{◌≡◌, refl, Bool, true, false, cond, List, �
 use Rattle.std.proofs.Common.{sym, ap, subst}
 use Rattle.std.proofs.Math.Option.{some, none}
 use contract.Lifetimes.{Lfts}
-use Rattle.std.specs.Borrow.{Bor}
+use Rattle.std.specs.Borrow.{Bor, MutBor}
 use Rattle.sampleinfo.specs.declared.Sample.{Sample}
 use Rattle.readcondition.specs.declared.ReadCondition.{ReadCondition}
 use Rattle.model.specs.Model as M
@@ -38,49 +38,49 @@ use Rattle.datasample_access.proofs.read_by_keys.Reads as of-read
 use Rattle.datasample_access.proofs.take_by_keys.Reads as of-take
 use Rattle.demands.specs.Meets.{Memory, Holds, Seen, Meets, Stays, said, shown}
 
-abbrev pub holding : Cache → Bor (List ℕ) → Bor (List Sample) → Memory
-holding h ws t = record { head = h; words = ws.now; table = t.now }
+abbrev pub holding : Cache → List ℕ → List Sample → Memory
+holding h ws t = record { head = h; words = ws; table = t }
 
 -- ---- the calls: the model's call, what was held before, what was seen, what is held after
 
-module _ (h : Cache) (ws : Bor (List ℕ)) (t : Bor (List Sample)) where
-  pub record SetUpCall (u : SetUp) (r : SetUpOutcome) (ws' : Bor (List ℕ)) (t' : Bor (List Sample)) : Type 0 where
+module _ (h : Cache) (ws : MutBor (List ℕ)) (t : MutBor (List Sample)) where
+  pub record SetUpCall (u : SetUp) (r : SetUpOutcome) (ws' : MutBor (List ℕ)) (t' : MutBor (List Sample)) : Type 0 where
     pub κs : Lfts 2
     pub told : of-set-up.Learnt κs (h, (ws, (t, (u.mode, (u.keep, (u.instances, tt)))))) r (h, (ws', (t', (u.mode, (u.keep, (u.instances, tt))))))
 
 pub data Called : Call → Memory → Seen → Memory → Type 0 where
-  set-up : (h : Cache) (ws ws' : Bor (List ℕ)) (t t' : Bor (List Sample)) (u : SetUp) (r : SetUpOutcome) → SetUpCall h ws t u r ws' t'
-      → Called (M.set_up u) (holding h ws t) (said (reply_as r.answer)) (holding r.head ws' t')
-  add : (κs : Lfts 2) (h : Cache) (ws ws' : Bor (List ℕ)) (t t' : Bor (List Sample)) (n : ℕ) (w : List ℕ) (q time kind x : ℕ) (r : AddOutcome)
+  set-up : (h : Cache) (ws ws' : MutBor (List ℕ)) (t t' : MutBor (List Sample)) (u : SetUp) (r : SetUpOutcome) → SetUpCall h ws t u r ws' t'
+      → Called (M.set_up u) (holding h ws.now t.now) (said (reply_as r.answer)) (holding r.head ws'.now t'.now)
+  add : (κs : Lfts 2) (h : Cache) (ws ws' : MutBor (List ℕ)) (t t' : MutBor (List Sample)) (n : ℕ) (w : List ℕ) (q time kind x : ℕ) (r : AddOutcome)
       → of-add.Learnt κs (h, (ws, (t, (n, (w, (q, (time, (kind, (x, tt))))))))) r (h, (ws', (t', (n, (w, (q, (time, (kind, (x, tt)))))))))
-      → Called (M.add (arrival n w q time kind x)) (holding h ws t) (said (added_as r.answer)) (holding r.head ws' t')
-  no-writers : (κs : Lfts 1) (h : Cache) (ws ws' : Bor (List ℕ)) (t : Bor (List Sample)) (n : ℕ) (r : Reply)
+      → Called (M.add (arrival n w q time kind x)) (holding h ws.now t.now) (said (added_as r.answer)) (holding r.head ws'.now t'.now)
+  no-writers : (κs : Lfts 1) (h : Cache) (ws ws' : MutBor (List ℕ)) (t : List Sample) (n : ℕ) (r : Reply)
       → of-no-writers.Learnt κs (h, (ws, (n, tt))) r (h, (ws', (n, tt)))
-      → Called (M.no_writers n) (holding h ws t) (said (reply_as r)) (holding h ws' t)
-  next-key : (κs : Lfts 1) (h : Cache) (ws : Bor (List ℕ)) (t : Bor (List Sample)) (n : ℕ) (r : Next)
+      → Called (M.no_writers n) (holding h ws.now t) (said (reply_as r)) (holding h ws'.now t)
+  next-key : (κs : Lfts 1) (h : Cache) (ws : Bor (List ℕ)) (t : List Sample) (n : ℕ) (r : Next)
       → of-next-key.Learnt κs (h, (ws, (n, tt))) r (h, (ws, (n, tt)))
-      → Called (M.next_key n) (holding h ws t) (said (next_as r)) (holding h ws t)
-  choose : (κs : Lfts 3) (h : Cache) (ws : Bor (List ℕ)) (t : Bor (List Sample)) (w : Within) (c : ReadCondition) (out out' : Bor (List ℕ)) (r : Chosen)
+      → Called (M.next_key n) (holding h ws.now t) (said (next_as r)) (holding h ws.now t)
+  choose : (κs : Lfts 3) (h : Cache) (ws : Bor (List ℕ)) (t : Bor (List Sample)) (w : Within) (c : ReadCondition) (out out' : MutBor (List ℕ)) (r : Chosen)
       → of-choose.Learnt κs (h, (ws, (t, (w, (c, (out, tt)))))) r (h, (ws, (t, (w, (c, (out', tt))))))
-      → Called (M.choose (scope_of w) c (length out.now / 2)) (holding h ws t) (said (answer_of r out'.now)) (holding h ws t)
-  choose-within : (κs : Lfts 3) (h : Cache) (ws : Bor (List ℕ)) (t : Bor (List Sample)) (n : ℕ) (c : ReadCondition) (out out' : Bor (List ℕ)) (r : Chosen)
+      → Called (M.choose (scope_of w) c (length out.now / 2)) (holding h ws.now t.now) (said (answer_of r out'.now)) (holding h ws.now t.now)
+  choose-within : (κs : Lfts 3) (h : Cache) (ws : Bor (List ℕ)) (t : Bor (List Sample)) (n : ℕ) (c : ReadCondition) (out out' : MutBor (List ℕ)) (r : Chosen)
       → of-choose-within.Learnt κs (h, (ws, (t, (n, (c, (out, tt)))))) r (h, (ws, (t, (n, (c, (out', tt))))))
-      → Called (M.choose (some n) c (length out.now / 2)) (holding h ws t) (said (answer_of r out'.now)) (holding h ws t)
-  read : (κs : Lfts 4) (h : Cache) (ws ws' : Bor (List ℕ)) (t t' : Bor (List Sample)) (keys out out' : Bor (List ℕ)) (r : ListOutcome)
+      → Called (M.choose (some n) c (length out.now / 2)) (holding h ws.now t.now) (said (answer_of r out'.now)) (holding h ws.now t.now)
+  read : (κs : Lfts 4) (h : Cache) (ws ws' : MutBor (List ℕ)) (t t' : MutBor (List Sample)) (keys : Bor (List ℕ)) (out out' : MutBor (List ℕ)) (r : ListOutcome)
       → whole_pairs keys.now ≡ true → of-read.Learnt κs (h, (ws, (t, (keys, (out, tt))))) r (h, (ws', (t', (keys, (out', tt)))))
-      → Called (M.read_or_take false (pairs_of keys.now) (places_in out.now)) (holding h ws t) (shown r.answer out.now out'.now) (holding r.head ws' t')
-  take : (κs : Lfts 4) (h : Cache) (ws ws' : Bor (List ℕ)) (t t' : Bor (List Sample)) (keys out out' : Bor (List ℕ)) (r : ListOutcome)
+      → Called (M.read_or_take false (pairs_of keys.now) (places_in out.now)) (holding h ws.now t.now) (shown r.answer out.now out'.now) (holding r.head ws'.now t'.now)
+  take : (κs : Lfts 4) (h : Cache) (ws ws' : MutBor (List ℕ)) (t t' : MutBor (List Sample)) (keys : Bor (List ℕ)) (out out' : MutBor (List ℕ)) (r : ListOutcome)
       → whole_pairs keys.now ≡ true → of-take.Learnt κs (h, (ws, (t, (keys, (out, tt))))) r (h, (ws', (t', (keys, (out', tt)))))
-      → Called (M.read_or_take true (pairs_of keys.now) (places_in out.now)) (holding h ws t) (shown r.answer out.now out'.now) (holding r.head ws' t')
+      → Called (M.read_or_take true (pairs_of keys.now) (places_in out.now)) (holding h ws.now t.now) (shown r.answer out.now out'.now) (holding r.head ws'.now t'.now)
 
 -- a call with a key list not of whole pairs
 pub data OddCalled : Memory → Seen → Memory → Type 0 where
-  read : (κs : Lfts 4) (h : Cache) (ws ws' : Bor (List ℕ)) (t t' : Bor (List Sample)) (keys out out' : Bor (List ℕ)) (r : ListOutcome)
+  read : (κs : Lfts 4) (h : Cache) (ws ws' : MutBor (List ℕ)) (t t' : MutBor (List Sample)) (keys : Bor (List ℕ)) (out out' : MutBor (List ℕ)) (r : ListOutcome)
       → whole_pairs keys.now ≡ false → of-read.Learnt κs (h, (ws, (t, (keys, (out, tt))))) r (h, (ws', (t', (keys, (out', tt)))))
-      → OddCalled (holding h ws t) (shown r.answer out.now out'.now) (holding r.head ws' t')
-  take : (κs : Lfts 4) (h : Cache) (ws ws' : Bor (List ℕ)) (t t' : Bor (List Sample)) (keys out out' : Bor (List ℕ)) (r : ListOutcome)
+      → OddCalled (holding h ws.now t.now) (shown r.answer out.now out'.now) (holding r.head ws'.now t'.now)
+  take : (κs : Lfts 4) (h : Cache) (ws ws' : MutBor (List ℕ)) (t t' : MutBor (List Sample)) (keys : Bor (List ℕ)) (out out' : MutBor (List ℕ)) (r : ListOutcome)
       → whole_pairs keys.now ≡ false → of-take.Learnt κs (h, (ws, (t, (keys, (out, tt))))) r (h, (ws', (t', (keys, (out', tt)))))
-      → OddCalled (holding h ws t) (shown r.answer out.now out'.now) (holding r.head ws' t')
+      → OddCalled (holding h ws.now t.now) (shown r.answer out.now out'.now) (holding r.head ws'.now t'.now)
 
 -- ---- each contract is what `Meets` says of its call
 
@@ -109,7 +109,7 @@ pub called-meets : {c : Call} {x y : Memory} {a : Seen} → Called c x a y → M
 unfolding M.step
 called-meets (set-up h ws ws' t t' u r k) = by-set-up u h r ws.now ws'.now t.now t'.now k.told
 called-meets (add κs h ws ws' t t' n w q time kind x r f) = λ m g l. ((f.0 m g l).answer, (f.0 m g l).lies)
-called-meets (no-writers κs h ws ws' t n r f) = λ m g l. ((f m t.now g l).answer, (f m t.now g l).lies)
+called-meets (no-writers κs h ws ws' t n r f) = λ m g l. ((f m t g l).answer, (f m t g l).lies)
 called-meets (next-key κs h ws t n r f) = λ m g l. (sym (ap (λ (s : Step). s.answer) (f m t.now g l)), l)
 called-meets (choose κs h ws t w c out out' r f) = λ m g l. ((f.0 m g l).answer, l)
 called-meets (choose-within κs h ws t n c out out' r f) = λ m g l. ((f.0 m g l).answer, l)
@@ -125,6 +125,6 @@ odd-stays (take κs h ws ws' t t' keys out out' r w f) = λ m g l.
     let x = listing-odd m true keys.now (places_in out.now) (λ s. list.Came s r ws'.now t'.now out.now out'.now) w (f.0 m g l) in (x.answer, x.lies)
 
 -- an accepted set-up makes a fresh cache, whatever lay in memory
-pub set-up-begins : (h : Cache) (ws ws' : Bor (List ℕ)) (t t' : Bor (List Sample)) (u : SetUp) (r : SetUpOutcome) → length t.now ≡ 256 → within u ≡ true → SetUpCall h ws t u r ws' t'
-    → Holds (fresh (keep_of u) u.instances) (holding r.head ws' t')
+pub set-up-begins : (h : Cache) (ws ws' : MutBor (List ℕ)) (t t' : MutBor (List Sample)) (u : SetUp) (r : SetUpOutcome) → length t.now ≡ 256 → within u ≡ true → SetUpCall h ws t u r ws' t'
+    → Holds (fresh (keep_of u) u.instances) (holding r.head ws'.now t'.now)
 set-up-begins h ws ws' t t' u r long w k = (k.told.accepted long w).1

@@ -3,7 +3,7 @@
 use Rattle.std.specs.Prelude.{◌≡◌, true, List, [], ◌∷◌, map, ℕ, length}
 use Rattle.std.proofs.Common.{subst}
 use Rattle.std.proofs.Math.Option.{Option}
-use Rattle.std.specs.Borrow.{Bor}
+use Rattle.std.specs.Borrow.{MutBor}
 use Rattle.sampleinfo.specs.declared.Sample.{Sample}
 use Rattle.model.specs.Model.{Model, SetUp, Call, Answer, within, keep_of, fresh, step, answers}
 use Rattle.model.specs.Bounds.{Bounds, accepted}
@@ -32,14 +32,14 @@ pub data Calls : Memory → List Call → List Seen → Memory → Type 0 where
 pub record Runs (u : SetUp) (d : Option ℕ) (cs : List Call) (ss : List Seen) (z : Memory) : Type 0 where
   pub bounds : Bounds u d
   pub head : Cache
-  pub words : Bor (List ℕ)
-  pub table : Bor (List Sample)
+  pub words : MutBor (List ℕ)
+  pub table : MutBor (List Sample)
   pub long : length table.now ≡ 256
-  pub words' : Bor (List ℕ)
-  pub table' : Bor (List Sample)
+  pub words' : MutBor (List ℕ)
+  pub table' : MutBor (List Sample)
   pub outcome : SetUpOutcome
   pub set-up : SetUpCall head words table u outcome words' table'
-  pub calls : Calls (holding outcome.head words' table') cs ss z
+  pub calls : Calls (holding outcome.head words'.now table'.now) cs ss z
 
 -- each is what was seen of the answer beside it
 abbrev pub Agree : List Seen → List Answer → Type 0
@@ -69,7 +69,7 @@ pub code_runs : {u : SetUp} {d : Option ℕ} {cs : List Call} {ss : List Seen} {
 unfolding run
 code_runs {u = u} {d = d} {cs = cs} {ss = ss} {z = z} r =
     let w : (within u ≡ true) × (keep_of u ≡ d) = passes r in
-    let x : Holds (made (keep_of u) u) (holding r.outcome.head r.words' r.table') =
+    let x : Holds (made (keep_of u) u) (holding r.outcome.head r.words'.now r.table'.now) =
     set-up-begins r.head r.words r.words' r.table r.table' u r.outcome r.long w.0 r.set-up in
     subst (λ k. Agree ss (answers (made k u) cs) × Holds (run (made k u) cs) z) w.1 (calls-from r.calls (made (keep_of u) u) (good-run u w.0 []) x)
 
