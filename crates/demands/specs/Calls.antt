@@ -110,7 +110,7 @@ unfolding M.step
 called-meets (set-up h ws ws' t t' u r k) = by-set-up u h r ws.now ws'.now t.now t'.now k.told
 called-meets (add κs h ws ws' t t' n w q time kind x r f) = λ m g l. ((f.0 m g l).answer, (f.0 m g l).lies)
 called-meets (no-writers κs h ws ws' t n r f) = λ m g l. ((f m t g l).answer, (f m t g l).lies)
-called-meets (next-key κs h ws t n r f) = λ m g l. (sym (ap (λ (s : Step). s.answer) (f m t.now g l)), l)
+called-meets (next-key κs h ws t n r f) = λ m g l. (sym (ap (λ (s : Step). s.answer) (f m t g l)), l)
 called-meets (choose κs h ws t w c out out' r f) = λ m g l. ((f.0 m g l).answer, l)
 called-meets (choose-within κs h ws t n c out out' r f) = λ m g l. ((f.0 m g l).answer, l)
 called-meets (read κs h ws ws' t t' keys out out' r w f) = λ m g l.
