@@ -13,7 +13,8 @@ use Rattle.sampleinfo.specs.declared.Sample.{Sample}
 use Rattle.model.specs.Pairs.{Pair, Bad, first_bad, none_bad}
 use Rattle.model.specs.Model as M
 use Rattle.model.specs.Model.{Model, is_live, fine, infos_for, access, accessing, step, refuse, Edition, by_the_rust}
-use Rattle.model.specs.BadLaws.{all_live, fine-live}
+use Rattle.model.specs.BadLaws.{all_live}
+use Rattle.model.proofs.BadLaws.{fine-live}
 use Rattle.model.specs.PairLaws.{split}
 use Rattle.pairs.specs.Flat.{pairs_of, whole_pairs}
 use Rattle.pairs.specs.FlatLaws.{length_pairs}

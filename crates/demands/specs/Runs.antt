@@ -6,7 +6,8 @@ use Rattle.std.proofs.Math.Option.{Option}
 use Rattle.std.specs.Borrow.{MutBor}
 use Rattle.sampleinfo.specs.declared.Sample.{Sample}
 use Rattle.model.specs.Model.{Model, SetUp, Call, Answer, within, keep_of, fresh, step, answers}
-use Rattle.model.specs.Bounds.{Bounds, accepted}
+use Rattle.model.specs.Bounds.{Bounds}
+use Rattle.model.proofs.Bounds.{accepted}
 use Rattle.model.specs.Story.{run, trace, live_at}
 use Rattle.model.specs.Demand3.{Demand3}
 use Rattle.model.proofs.Demand3.{demand3}

@@ -12,7 +12,8 @@ use borrow.Author.Tests.{eqb-true, eq-eqb, ne_eqb, ltb-true, ltb-false, le-leb, 
 use Rattle.readcondition.specs.Masks.{is_valid}
 use Rattle.readcondition.specs.declared.ReadCondition.{ReadCondition}
 use Rattle.model.specs.Pairs.{Pair, Hit, earlier, sorted, pairs_in}
-use Rattle.model.specs.PairLaws.{in-append, in_map, in-sorted, pair_is, not_earlier, Sorted, sorted-sorted, times_key, times-sorted, times-append, distinct-keys, every_in, split}
+use Rattle.model.specs.PairLaws.{in-append, in_map, in-sorted, pair_is, Sorted, times_key, times-sorted, times-append, distinct-keys, every_in, split}
+use Rattle.model.proofs.PairLaws.{not_earlier, sorted-sorted}
 use Rattle.model.specs.Model.{Model, Instance, Live, selected, next, choose, next_key, find, live_in, lives, count, chosen, hit_of, hits_in, hits, one, scope, choices, choosing, least, next_name, step}
 use Rattle.model.specs.Story.{Every, lives_of, live_at}
 use Rattle.model.specs.Demand3.{In, IsAt, has_key, InScope, Chosen, Precedes, Ordered, Selection, Looks, Nexts, times_held}

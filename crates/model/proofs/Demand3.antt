@@ -5,10 +5,11 @@ use mathlib.Core.List.{List}
 use mathlib.Core.Option.{Option}
 use Prim.Native.Nat.{ℕ}
 use Rattle.model.specs.Model.{Model, SetUp, Call, set_up, ok, within, keep_of, fresh, step}
-use Rattle.model.specs.Bounds.{Bounds, accepted}
+use Rattle.model.specs.Bounds.{Bounds}
+use Rattle.model.proofs.Bounds.{accepted}
 use Rattle.model.specs.Story.{run, trace, entries_of, holds}
 use Rattle.model.specs.Demand3.{Demand3}
-use Rattle.model.specs.PairLaws.{among_in}
+use Rattle.model.proofs.PairLaws.{among_in}
 use Rattle.model.proofs.Held.{holds-last, keep-is-told, length_last}
 use Rattle.model.proofs.Keys.{all-keys-rise, story-keys-rise, last-is-last, live-keys-top}
 use Rattle.model.proofs.Refusals.{formed-is, refused-same, refused-exactly, refused-iff, never-5, set-up-step}

@@ -1,3 +1,6 @@
+pub mod Bounds
+pub mod PairLaws
+pub mod BadLaws
 pub mod Laws
 pub mod Held
 pub mod Refusals

@@ -16,9 +16,11 @@ use Rattle.sampleinfo.specs.declared.Info.{Info}
 use Rattle.sampleinfo.specs.declared.Ranks.{Ranks}
 use Rattle.model.specs.Pairs.{Pair}
 use Rattle.model.specs.Views.{greater, viewed}
-use Rattle.model.specs.PairLaws.{among_in, repeats-distinct, split}
+use Rattle.model.specs.PairLaws.{split}
+use Rattle.model.proofs.PairLaws.{among_in, repeats-distinct}
 use Rattle.model.specs.Model.{Model, Instance, Live, Place, gone, held, Step, refused, infos, read_or_take, refuse, find, live_in, keyed, named, present, as_read, is_live, fine, info_at, infos_of, infos_for, touch, listed_in, shown, accessed, listed, access, accessing, step, Edition, ranks_at}
-use Rattle.model.specs.BadLaws.{all_live, fine-is-both, fine-live, fine-once}
+use Rattle.model.specs.BadLaws.{all_live}
+use Rattle.model.proofs.BadLaws.{fine-is-both, fine-live, fine-once}
 use Rattle.model.specs.Story.{Every, map_o, lives_of, live_at}
 use Rattle.model.specs.Demand3.{In, LivePair, Sound, names, takes, remains, Greatest, Viewed, AtPlace, Lists, times_held}
 use Rattle.model.proofs.Laws.{find-map, find-name}

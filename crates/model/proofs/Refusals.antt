@@ -20,7 +20,8 @@ use Rattle.keys.specs.declared.Last.TheVariants as last
 use Rattle.keys.specs.declared.Issued.{Issued}
 use Rattle.keys.specs.declared.Issued.TheVariants as issued
 use Rattle.model.specs.Model.{Model, Instance, SetUp, Arrival, Call, Step, set_up, add, Answer, refused, ok, added, find, lives, is_new, unkept, no_key, key_in, issue_of, state_in, well_formed, old_of, refusal_of, within, keep_of, fresh, setting_up, accept, adding, access, step}
-use Rattle.model.specs.Bounds.{and_is, or_is, le_is, eq_is, accepted}
+use Rattle.model.specs.Bounds.{and_is, or_is, le_is, eq_is}
+use Rattle.model.proofs.Bounds.{accepted}
 use Rattle.model.specs.Demand3.{Sets, WellFormed, NoLaterKey, NoRoom, LastRebirth, NoSlot, Exactly}
 use Rattle.model.proofs.Laws.{Done, turned, began, came, lost, looked, went, asked, done}
 use Rattle.model.specs.PairLaws.{split}

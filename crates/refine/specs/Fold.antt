@@ -7,7 +7,8 @@ use Rattle.std.proofs.Math.Option.{Option, some, none}
 use Rattle.std.proofs.lemmas.Bool.{eqb-false}
 use Rattle.model.specs.Pairs.{Pair, among, repeats, same_pair}
 use Rattle.model.specs.Model.{Model, Instance, Live, Place, gone, held, find, live_in, keyed, named, present, is_live, fine, mark, touch}
-use Rattle.model.specs.BadLaws.{all_live, fine-is-both, fine-live, fine-once}
+use Rattle.model.specs.BadLaws.{all_live}
+use Rattle.model.proofs.BadLaws.{fine-is-both, fine-live, fine-once}
 use Rattle.model.specs.PairLaws.{split}
 use Rattle.store.specs.Store.{slot_named, freed}
 use Rattle.refine.specs.Layout.{slot_or_none, store_of, table_of}

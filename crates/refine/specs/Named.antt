@@ -57,12 +57,12 @@ slot-none (suc n) k key at s h = rw (h k (omega arith)) (slot-none n (k + 1) key
 -- ---- in the store of a model
 
 abbrev hit_in : ℕ → ℕ → Option Entry → Bool
-hit_in key at none = false
-hit_in key at (some e) = eqb e.live.key key && eqb e.at at
+hit_in key row none = false
+hit_in key row (some e) = eqb e.live.key key && eqb e.at row
 
-hit-is : (key at : ℕ) (o : Option Entry) → not (eqb (free_of o) 1) && (eqb (key_of o) key && eqb (owner_of o) at) ≡ hit_in key at o
-hit-is key at none = refl
-hit-is key at (some e) = refl
+hit-is : (key row : ℕ) (o : Option Entry) → not (eqb (free_of o) 1) && (eqb (key_of o) key && eqb (owner_of o) row) ≡ hit_in key row o
+hit-is key row none = refl
+hit-is key row (some e) = refl
 
 module _ (m : Model) (g : Good m) where
   pub free-at : (k : ℕ) → k < 256 → get_or (store_of m).free k 0 ≡ free_of (look_up k (entries_of m))

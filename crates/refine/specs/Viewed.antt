@@ -12,7 +12,8 @@ use Rattle.sampleinfo.specs.Samples.{empty_sample, total_of}
 use Rattle.model.specs.Pairs.{Pair, among}
 use Rattle.model.specs.Views.{greater}
 use Rattle.model.specs.Model.{Model, Instance, Live, find, live_in, lives, count, keyed, is_live, fine, listed_in, shown, listed, access}
-use Rattle.model.specs.BadLaws.{all_live, fine-live}
+use Rattle.model.specs.BadLaws.{all_live}
+use Rattle.model.proofs.BadLaws.{fine-live}
 use Rattle.model.specs.Story.{lives_of}
 use Rattle.model.specs.Demand3.{times_held, has_key}
 use Rattle.model.specs.PairLaws.{split}

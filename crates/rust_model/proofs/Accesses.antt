@@ -11,10 +11,12 @@ use Rattle.sampleinfo.specs.declared.InstanceState.{InstanceState}
 use Rattle.sampleinfo.specs.declared.Info.{Info}
 use Rattle.sampleinfo.specs.declared.Sample.{Sample}
 use Rattle.model.specs.Pairs.{Pair}
-use Rattle.model.specs.PairLaws.{pair_is, repeats-distinct, split}
+use Rattle.model.specs.PairLaws.{pair_is, split}
+use Rattle.model.proofs.PairLaws.{repeats-distinct}
 use Rattle.model.specs.Views.{rank_from, viewed}
 use Rattle.model.specs.Model.{Model, Live, Instance, find, next_name, live_in, lives, keyed, named, present, is_live, fine, latest, latest_total, last_total, view_in, info_of, info_at, infos_of, infos_for, shown, touch, listed, access, Edition, by_the_rust, ranks_at}
-use Rattle.model.specs.BadLaws.{all_live, fine-live, fine-once}
+use Rattle.model.specs.BadLaws.{all_live}
+use Rattle.model.proofs.BadLaws.{fine-live, fine-once}
 use Rattle.model.specs.Story.{Entry as Told, Every, AtMost, map_o, untaken, entry_keys, touch_entry}
 use Rattle.model.specs.Demand3.{In, Distinct, times_held}
 use Rattle.model.proofs.Laws.{every-imp, find-name, find-map, places_of, places-touch}

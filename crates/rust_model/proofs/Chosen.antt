@@ -15,7 +15,8 @@ use Rattle.readcondition.specs.declared.ReadCondition.{ReadCondition}
 use Rattle.lists.specs.Insert.{insert_by}
 use Rattle.lists.specs.Sort.{Strict, insert_comm}
 use Rattle.model.specs.Pairs.{Hit, earlier, insert, sorted, pairs_in}
-use Rattle.model.specs.PairLaws.{Before, earlier-before, not_earlier, before-trans, before-not, split}
+use Rattle.model.specs.PairLaws.{Before, earlier-before, before-trans, before-not, split}
+use Rattle.model.proofs.PairLaws.{not_earlier}
 use Rattle.model.specs.Views.{view_of}
 use Rattle.model.specs.Model.{Live, Instance, live_in, chosen, hit_of, hits_in, hits}
 use Rattle.model.specs.Story.{Entry as Told, Every, untaken, entry_keys}
