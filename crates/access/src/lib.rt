@@ -1,5 +1,6 @@
 // Reading and taking a list on numbers: what is refused, which slots the list names, what is shown of each, and what is left in the index.
 #![tactic(auto)]
+
 ghost use Rattle.std.specs.Prelude.{◌≡◌, ◌+◌, ◌*◌, ◌/◌, ◌<◌, ◌≤◌, length, get_or};
 ghost use Rattle.sampleinfo.specs.Counts.{accessed_at};
 ghost use Rattle.sampleinfo.specs.Samples.{total_of};

@@ -1,5 +1,6 @@
 // The answer of a call as a value, and the lines that it prints.
 #![tactic(auto)]
+
 ghost use Rattle.std.specs.Prelude.{List, ◌≤◌, length, take};
 ghost use Rattle.sampleinfo.specs.declared.Info.{Info};
 ghost use Rattle.model.specs.Model as model;

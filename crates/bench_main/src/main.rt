@@ -3,6 +3,7 @@
 // Only `main` lends the sample table, and it decides nothing: a function over the table has a long machine-made derivation (tools/lent), one over the
 // driver's words has none.
 #![tactic(auto)]
+
 ghost use Rattle.std.specs.Prelude.{◌≡◌, ◌<◌, ◌≤◌, length};
 
 use datasample_access::{ListOutcome, Listed};

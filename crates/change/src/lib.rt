@@ -1,5 +1,6 @@
 // What changes the cache beside an add: an accepted set-up, the no-writers event, a slot that becomes free.
 #![tactic(auto)]
+
 ghost use Rattle.std.specs.Prelude.{◌≡◌, cond, ℕ, ◌+◌, ◌*◌, ◌<◌, ◌≤◌, eqb};
 ghost use Rattle.std.proofs.Math.Option.{Option};
 ghost use Rattle.store.specs.Store.{Store, dying};

@@ -1,5 +1,6 @@
 // datasample_cache.rs: read_by_keys and take_by_keys, over lent memory.
 #![tactic(auto)]
+
 ghost use Rattle.std.specs.Prelude.{◌≡◌, true, false};
 ghost use Rattle.store.specs.Store.{Store};
 ghost use Rattle.model.specs.Model.{Model};

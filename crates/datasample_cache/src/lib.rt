@@ -1,5 +1,6 @@
 // datasample_cache.rs: setting up, adding, the no-writers event, the next key.
 #![tactic(auto)]
+
 ghost use Rattle.std.specs.Prelude.{◌≡◌, List, ℕ, ◌*◌, ◌<◌, ◌&&◌, leb};
 ghost use Rattle.store.specs.Store.{Store, adding};
 ghost use Rattle.plan.specs.Plan.{wanted};

@@ -1,5 +1,6 @@
 // datasample_cache.rs: select_keys_for_access and select_instance_keys_for_access over lent memory.
 #![tactic(auto)]
+
 ghost use Rattle.std.specs.Prelude.{◌≡◌, ◌/◌, length};
 ghost use Rattle.std.proofs.Math.Option.{some};
 ghost use Rattle.model.specs.Model.{Model, Call, step};

@@ -1,5 +1,6 @@
 // A fixed list of calls on the topic cache. Each answer is printed, a line a call; what must come out stands in the file stdout.
 #![tactic(auto)]
+
 ghost use Rattle.std.specs.Prelude.{◌≤◌};
 
 use changes::CacheChange;

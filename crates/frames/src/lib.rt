@@ -1,6 +1,7 @@
 // The frame of a program's input, a version byte and then records behind two length bytes each, and the way of its output. What standard input gives and
 // whether standard output takes it no contract can say; what is made of the bytes that came has one.
 #![tactic(auto)]
+
 ghost use Rattle.std.specs.Prelude.{◌≡◌, true, ◌+◌, ◌≤◌, ◌<◌, length};
 ghost use Rattle.records.specs.Format.{byte_at, number_at, too_long};
 ghost use Rattle.frames.specs.Pieces.{piece_of, version_of, Most};

@@ -9,6 +9,7 @@
 //      416    256  KEYS    the key of the sample in each slot; 0 in a free one
 //      672    256  OWNERS  the row of its instance; 0 in a free one
 #![tactic(auto)]
+
 ghost use Rattle.std.specs.Prelude.{◌≡◌, ◌+◌, ◌*◌, ◌%◌, ◌<◌, min, get_or};
 ghost use Rattle.store.specs.Store.{Store, place_of};
 ghost use Rattle.index.specs.Words.{names_in, metas_in, cells_in, keys_in, owners_in, put_name, put_cell, put_key, put_owner, put_slot, meta_at, put_meta, put_meta_word};

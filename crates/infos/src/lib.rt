@@ -1,5 +1,6 @@
 // datasample_cache.rs, make_sample_info: the info of a sample, with the ranks of its place; and infos as words of the lent result buffer.
 #![tactic(auto)]
+
 ghost use Rattle.std.specs.Prelude.{◌≡◌, ◌+◌, ◌≤◌, length, take, drop};
 ghost use Rattle.sampleinfo.specs.Counts.{total};
 ghost use Rattle.model.specs.Views.{view_of, rank_from};

@@ -1,5 +1,6 @@
 // The key rule, for the cache and for the topic cache.
 #![tactic(auto)]
+
 ghost use Rattle.std.specs.Prelude.{◌≡◌};
 ghost use Rattle.keys.specs.Keys.{key_of, topic_last};
 

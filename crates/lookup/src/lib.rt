@@ -1,5 +1,6 @@
 // What is asked of the cache and changes nothing: the next instance key, the slot of a pair, the slot of the latest sample.
 #![tactic(auto)]
+
 ghost use Rattle.std.specs.Prelude.{◌≡◌, cond, not, ◌&&◌, ◌+◌, ◌*◌, ◌<◌, ◌≤◌, get_or, length, ltb, eqb};
 ghost use Rattle.slots.specs.Bits.{bits_of, free_at};
 ghost use Rattle.store.specs.Store.{Store, next_name, slot_named, cell_keyed, slot_keyed, later_slot, greatest_from, latest_slot, inst_at};

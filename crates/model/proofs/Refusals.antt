@@ -16,7 +16,6 @@ use Rattle.sampleinfo.specs.declared.Body.{Body}
 use Rattle.sampleinfo.specs.declared.Body.TheVariants.{Value, Dispose}
 use Rattle.keys.specs.Keys.{key_of, issued_number}
 use Rattle.keys.specs.KeyLaws.{key-later, key_fits, refused_none}
-use Rattle.keys.specs.declared.Last.TheVariants as last
 use Rattle.keys.specs.declared.Issued.{Issued}
 use Rattle.keys.specs.declared.Issued.TheVariants as issued
 use Rattle.model.specs.Model.{Model, Instance, SetUp, Arrival, Call, Step, set_up, add, Answer, refused, ok, added, find, lives, is_new, unkept, no_key, key_in, issue_of, state_in, well_formed, old_of, refusal_of, within, keep_of, fresh, setting_up, accept, adding, access, step}

@@ -13,7 +13,7 @@ use borrow.Author.Tests.{eqb-true, eqb-false, ne_eqb, ltb-true, ltb-false, lt-lt
 use Rattle.keys.specs.declared.Last.{Last}
 use Rattle.keys.specs.declared.Last.TheVariants as last
 use Rattle.model.specs.Pairs.{Pair}
-use Rattle.model.specs.Model.{Model, Instance, SetUp, Live, Arrival, Place, held, Call, Step, add, fresh, within, keep_of, keep_fits, is_zero, counts_kept, counts_none, depth_of, is_new, unkept, find, put, lives, count, in_slot, lowest_from, push, window, listed, left, live_of, old_of, issue_of, key_in, refusal_of, arrived, roomy, slot_of, accept, access, step}
+use Rattle.model.specs.Model.{Model, Instance, SetUp, Live, Arrival, Place, held, Call, Step, fresh, within, keep_of, keep_fits, is_zero, counts_kept, counts_none, depth_of, is_new, unkept, find, put, lives, count, in_slot, lowest_from, push, window, listed, left, live_of, old_of, issue_of, key_in, refusal_of, arrived, roomy, slot_of, accept, access, step}
 use Rattle.keys.specs.Keys.{Later}
 use Rattle.model.specs.Story.{run, Every, lives_of}
 use Rattle.model.specs.Demand3.{Bounded, Lowest, has_key}

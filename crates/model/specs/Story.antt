@@ -1,5 +1,5 @@
 -- An instance's story: what the caller saw of it, call by call, with no look into the cache.
-use Rattle.std.specs.Prelude.{Bool, true, false, ◌&&◌, cond, List, [], ◌∷◌, ◌++◌, map, ℕ, ◌-◌, ◌≤◌, ◌<◌, length, drop, eqb}
+use Rattle.std.specs.Prelude.{Bool, true, false, ◌&&◌, cond, List, [], ◌∷◌, ◌++◌, map, ℕ, ◌-◌, ◌≤◌, length, drop, eqb}
 use Rattle.std.proofs.Math.Option.{Option, some, none}
 use Rattle.sampleinfo.specs.Lifecycle.{new_instance, becomes, no_writers_of}
 use Rattle.sampleinfo.specs.declared.InstanceState.{InstanceState}

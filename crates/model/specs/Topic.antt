@@ -1,5 +1,5 @@
 -- The topic cache as document 01 describes it: limits, update, collection, adding, removal, range (the best-effort half of dds_cache.rs).
-use Rattle.std.specs.Prelude.{Bool, true, false, ◌&&◌, ◌||◌, not, cond, List, [], ◌∷◌, ◌++◌, ℕ, ◌+◌, ◌-◌, ◌%◌, max, min, length, drop, ltb, leb, eqb}
+use Rattle.std.specs.Prelude.{Bool, true, false, ◌&&◌, ◌||◌, cond, List, [], ◌∷◌, ◌++◌, ℕ, ◌+◌, ◌-◌, ◌%◌, max, min, length, drop, ltb, leb, eqb}
 use Rattle.std.proofs.Math.Option.{Option, some, none}
 use Rattle.sampleinfo.specs.Formed.{seq_fits}
 use Rattle.keys.specs.Keys.{key_of}

@@ -1,5 +1,6 @@
 // An add, decided and written on numbers alone: the key, the instance's row, its lifecycle step, the slot.
 #![tactic(auto)]
+
 ghost use Rattle.std.specs.Prelude.{◌≡◌, cond, ◌&&◌, ℕ, ◌+◌, ◌*◌, ◌<◌, ◌≤◌, get_or, ltb, leb, eqb};
 ghost use Rattle.store.specs.Store.{Store, Inst, adding, keying, placing, fresh_inst};
 ghost use Rattle.index.specs.Words.{cells_in};

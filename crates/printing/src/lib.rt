@@ -1,5 +1,6 @@
 // The lines that the session program prints, laid into a lent buffer of bytes.
 #![tactic(auto)]
+
 ghost use Rattle.std.specs.Prelude.{◌≡◌, ◌∷◌, [], ◌++◌, ◌+◌, ◌-◌, ◌≤◌, length};
 ghost use Rattle.text.specs.Text.{decimal_of, signed_of};
 ghost use Rattle.model.specs.Model as model;

@@ -1,5 +1,6 @@
 // readcondition.rs: which samples are to be read or taken.
 #![tactic(auto)]
+
 ghost use Rattle.std.specs.Prelude.{◌≡◌};
 ghost use Rattle.sampleinfo.specs.States.{sample_bit, view_bit, instance_bit};
 ghost use Rattle.readcondition.specs.Masks.{has, chosen_by, is_valid, condition_number, valid_number, any_condition, not_read};

@@ -1,5 +1,6 @@
 // The records of a session: a record's bytes, without its two length bytes, to a request.
 #![tactic(auto)]
+
 ghost use Rattle.std.specs.Prelude.{◌≡◌, [], ◌+◌, ◌*◌, ◌≤◌, length};
 ghost use Rattle.records.specs.Format.{byte_at, number_at, twos, bytes_at, masks_at, instance_in, set_up_in, arrival_in, writer_in, count_in, list_size, sized_op, op_in, request_of, count_of, list_count, call_meant, bad};
 ghost use Rattle.records.specs.Words.{words_in, laid_in};

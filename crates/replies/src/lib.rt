@@ -1,5 +1,6 @@
 // The values of a session: what it holds, a call's outcome as the reply to a record, and what is refused before the cache is asked.
 #![tactic(auto)]
+
 ghost use Rattle.std.specs.Prelude.{◌≡◌, true, ◌<◌, ◌^◌};
 ghost use Rattle.replies.specs.Steps.{said, session_of, declined_with, is_ok, reply_said, set_up_done, evicted_said, add_said, add_done, choose_said, list_said, list_done, at_most, next_said, is_set_up, same, refusal_by};
 

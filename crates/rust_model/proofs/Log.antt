@@ -64,9 +64,9 @@ unfolding samples get
 get-samples [] r = tt
 get-samples (k ∷ log) r = split k.told.taken
     (λ q. let same : samples (k ∷ log) ≡ samples log = rw q in
-        subst Found (sym same) (rw q (get_none (key_at k) (samples log) (every-samples (λ j. key_at k < j) log r.0)), get-samples log r.1))
+    subst Found (sym same) (rw q (get_none (key_at k) (samples log) (every-samples (λ j. key_at k < j) log r.0)), get-samples log r.1))
     (λ q. let same : samples (k ∷ log) ≡ entry (key_at k) (stored k) ∷ samples log = rw q in
-        subst Found (sym same) (rw (q, same-eqb), past (samples log) log r.0 (get-samples log r.1)))
+    subst Found (sym same) (rw (q, same-eqb), past (samples log) log r.0 (get-samples log r.1)))
   where
     Found : DataSamples → Type 0
     Found m = Every (λ j. get (key_at j) m ≡ sample_at j) (k ∷ log)

@@ -1,7 +1,6 @@
 -- The lifecycle of an instance: DDS 1.4, 2.2.2.5.1.3 (instance_state) and 2.2.2.5.1.5 (generation counts), with document 01's limit and no-writers event.
-use Rattle.std.specs.Prelude.{◌≡◌, refl, Bool, true, false, ◌&&◌, cond, ℕ, ◌≤◌, leb}
-use Rattle.std.proofs.Common.{arith}
-use Rattle.sampleinfo.specs.Counts.{zero, total, disposed_count, no_writers_count, disposed_plus, no_writers_plus, never}
+use Rattle.std.specs.Prelude.{Bool, true, false, ◌&&◌, cond, ℕ, leb}
+use Rattle.sampleinfo.specs.Counts.{zero, total, disposed_plus, no_writers_plus, never}
 use Rattle.sampleinfo.specs.declared.InstanceState.{InstanceState}
 use Rattle.sampleinfo.specs.declared.InstanceState.TheVariants.{Alive, NotAliveDisposed, NotAliveNoWriters}
 use Rattle.sampleinfo.specs.declared.NotAliveGenerationCounts.{NotAliveGenerationCounts}

@@ -5,7 +5,7 @@ use Rattle.std.proofs.Common.{sym, ◌∙◌, arith, le-leb}
 use Rattle.std.proofs.Math.Bool.{true, false, cond}
 use Rattle.std.proofs.lemmas.Bool.{lt-leb}
 use Rattle.std.proofs.Math.Dec.{leb}
-use Rattle.sampleinfo.specs.Counts.{total, disposed_count, no_writers_count, disposed_plus, no_writers_plus}
+use Rattle.sampleinfo.specs.Counts.{total, disposed_count, no_writers_count}
 use Rattle.sampleinfo.specs.Lifecycle.{state_of, counts_of, with_state, counts_after, is_alive, is_reborn, is_last, becomes, lifecycle_of, stepped_of, left_by, no_writers_of, lifecycle_number, stepped_number}
 use Rattle.sampleinfo.specs.declared.InstanceState.{InstanceState}
 use Rattle.sampleinfo.specs.declared.InstanceState.TheVariants.{Alive, NotAliveDisposed, NotAliveNoWriters}

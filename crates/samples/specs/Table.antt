@@ -1,5 +1,5 @@
 -- The sample table as a list of records.
-use Rattle.std.specs.Prelude.{Bool, cond, List, [], ◌∷◌, ℕ, zero, suc, ◌+◌, ◌*◌, get_or, set, replicate}
+use Rattle.std.specs.Prelude.{Bool, cond, List, ℕ, zero, suc, ◌+◌, ◌*◌, get_or, set, replicate}
 use Rattle.sampleinfo.specs.States.{sample_bit}
 use Rattle.sampleinfo.specs.Samples.{empty_sample, marked_read, sample_state_of, total_of}
 use Rattle.sampleinfo.specs.declared.Sample.{Sample}

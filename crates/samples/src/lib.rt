@@ -1,5 +1,6 @@
 // The sample table: a run of records that the host lends. Few thin functions touch it; whatever is decided is decided on numbers.
 #![tactic(auto)]
+
 ghost use Rattle.std.specs.Prelude.{◌≡◌, ◌<◌, length, set, get_or, replicate};
 ghost use Rattle.sampleinfo.specs.Samples.{empty_sample, marked_read};
 ghost use Rattle.samples.specs.Table.{peek_at, swapped, touched, empty_table, put_seen, gathered};

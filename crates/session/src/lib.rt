@@ -1,5 +1,6 @@
 // A session: a record is answered by the cache that stands, and its lines are laid into a lent buffer.
 #![tactic(auto)]
+
 ghost use Rattle.std.specs.Prelude.{◌≡◌, List, ℕ, ◌<◌, length};
 ghost use Rattle.std.proofs.Math.Option.{Option};
 ghost use Rattle.model.specs.Model as model;

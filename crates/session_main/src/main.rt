@@ -1,6 +1,7 @@
 // The session program: records on standard input, their lines on standard output. It owns the sample table and the index, and answers each record
 // before it waits for the next one. With --full it also prints the writer and the sequence number of each info, for the comparison with the Rust.
 #![tactic(auto)]
+
 ghost use Rattle.std.specs.Prelude.{◌≤◌, ◌<◌, ◌≡◌, length};
 ghost use Rattle.std.proofs.Math.Option.{Option};
 ghost use Rattle.sampleinfo.specs.Samples.{empty_sample};

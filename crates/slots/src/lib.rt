@@ -1,5 +1,6 @@
 // The free slots: one bit each in four words; the number free and the lowest come from counting bits.
 #![tactic(auto)]
+
 ghost use Rattle.std.specs.Prelude.{◌≡◌, ◌+◌, ◌<◌, set, replicate};
 ghost use Rattle.slots.specs.Bits.{bits_of, total, first_one, slot_for, free_at};
 

@@ -1,5 +1,5 @@
 -- Signed numbers: below 0, and the distance from 0.
-use Rattle.std.specs.Prelude.{◌≡◌, refl, true, false, ℕ, zero, suc, ◌+◌, ◌-◌, ◌<◌, ◌^◌, T, ℤ, pos, negsuc, neg_ℤ, nat_abs, ◌+ℤ◌, ◌-ℤ◌}
+use Rattle.std.specs.Prelude.{◌≡◌, refl, true, false, ℕ, zero, suc, ◌+◌, ◌<◌, ◌^◌, T, ℤ, pos, negsuc, neg_ℤ, nat_abs, ◌+ℤ◌, ◌-ℤ◌}
 use Rattle.std.proofs.Common.{◌∙◌, arith, le-ltb, ltb-true, not-suc-le-zero, Fits, SFits, to_z, of_z, to_z-of_z}
 use Rattle.std.proofs.Math.IntN.{+ℤ_one, +ℤ_idl, neg_ℤ-neg_ℤ}
 use Rattle.std.specs.Int.Signed.{mag, lt_z, non_neg}

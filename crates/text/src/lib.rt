@@ -1,5 +1,6 @@
 // Numbers as decimal text, at the end of a small array, and bytes laid into a lent buffer.
 #![tactic(auto)]
+
 ghost use Rattle.std.specs.Prelude.{◌≡◌, ◌∷◌, [], ◌+◌, leb, nat_abs};
 ghost use Rattle.text.specs.Text.{is_neg, decimal_of, signed_of, number_of, text_of, written, place_after};
 

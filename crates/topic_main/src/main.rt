@@ -1,6 +1,7 @@
 // A program over the topic cache, for the comparison with the Rust (oracle/src/topic/format.rs): records on standard input, lines on standard
 // output. It owns the words of the cache, and answers each record before it waits for the next.
 #![tactic(auto)]
+
 ghost use Rattle.std.specs.Prelude.{◌≤◌};
 
 use changes::{CacheChange, Kept};

@@ -1,6 +1,5 @@
 use Rattle.std.proofs.Common.{rules}
-use Prim.Native.Nat.{◌-◌}
-use Rattle.infos.specs.PutLaws.{copied, copied-start, copied-turn, copied-end}
+use Rattle.infos.specs.PutLaws.{copied-start, copied-turn, copied-end}
 use Rattle.infos.proofs.put_writer.Goals as goal
 
 pub loop-j-init : goal.loop-j-init

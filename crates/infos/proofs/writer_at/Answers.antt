@@ -1,5 +1,4 @@
 use Rattle.std.proofs.Common.{rules}
-use Prim.Native.Nat.{◌-◌}
 use Rattle.infos.specs.GetLaws.{bytes-start, bytes-turn, bytes-end}
 use Rattle.infos.proofs.writer_at.Goals as goal
 

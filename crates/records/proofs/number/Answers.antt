@@ -1,5 +1,4 @@
 use Rattle.std.proofs.Common.{rules}
-use Prim.Native.Nat.{◌-◌}
 use Rattle.records.specs.NumberLaws.{number-start, number-turn, number-room, number-room-first, number-end}
 use Rattle.records.proofs.number.Goals as goal
 

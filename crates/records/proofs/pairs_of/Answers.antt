@@ -1,5 +1,4 @@
 use Rattle.std.proofs.Common.{rules}
-use Prim.Native.Nat.{◌-◌}
 use Rattle.records.specs.PairLaws.{filled, filled-start, words_count, words-kept, words-turn, words-end}
 use Rattle.records.proofs.pairs_of.Goals as goal
 

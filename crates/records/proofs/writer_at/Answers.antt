@@ -1,5 +1,4 @@
 use Rattle.std.proofs.Common.{rules}
-use Prim.Native.Nat.{◌-◌}
 use Rattle.records.specs.PairLaws.{writer-start, writer-turn, writer-end}
 use Rattle.records.proofs.writer_at.Goals as goal
 

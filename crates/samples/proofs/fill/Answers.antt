@@ -1,7 +1,5 @@
 use Rattle.std.proofs.Common.{rules}
 use Rattle.samples.specs.TableLaws.{fill-turn, fill-length, fill_end, fill-256}
-use Prim.Native.Nat.{◌-◌}
-use lib.ListN.{length}
 use Rattle.samples.proofs.fill.Goals as goal
 
 pub loop-i-preserved : goal.loop-i-preserved

@@ -1,6 +1,5 @@
 use Rattle.std.proofs.Common.{rules}
 use Rattle.samples.specs.TableLaws.{gather-turn, gather-end}
-use Prim.Native.Nat.{◌-◌}
 use Rattle.samples.proofs.gather.Goals as goal
 
 pub loop-i-preserved : goal.loop-i-preserved

@@ -1,7 +1,6 @@
 -- The first j bytes are laid in.
 use Rattle.std.proofs.Common.{rules}
-use Prim.Native.Nat.{◌-◌}
-use Rattle.text.specs.PutLaws.{room_fits, kept-bytes, kept-place, laid, laid-start, laid-turn, laid_end, place_end}
+use Rattle.text.specs.PutLaws.{room_fits, kept-bytes, kept-place, laid-start, laid-turn, laid_end, place_end}
 use Rattle.text.proofs.put_bytes.Goals as goal
 
 pub loop-j-init : goal.loop-j-init

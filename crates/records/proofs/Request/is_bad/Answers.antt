@@ -1,7 +1,7 @@
 use Rattle.std.proofs.Common.{rules}
 use mathlib.Core.Path.{◌≡◌, refl}
 use mathlib.Core.Bool.{false}
-use mathlib.Core.List.{List, [], ◌∷◌}
+use mathlib.Core.List.{List, []}
 use Prim.Native.Nat.{ℕ}
 use Rattle.readcondition.specs.declared.ReadCondition.{ReadCondition}
 use Rattle.records.specs.declared.Arrival.{Arrival}

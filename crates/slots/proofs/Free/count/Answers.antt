@@ -1,6 +1,5 @@
 -- What the words passed count, and what is left of the list.
 use Rattle.std.proofs.Common.{rules}
-use Prim.Native.Nat.{◌-◌}
 use Rattle.slots.specs.BitLaws.{count_room, count_most, count_turn, count-end}
 use Rattle.slots.proofs.Free.count.Goals as goal
 

@@ -1,6 +1,5 @@
 -- The words passed are 0; the first that is not has the lowest.
 use Rattle.std.proofs.Common.{rules}
-use Prim.Native.Nat.{◌-◌}
 use native.Mathlib.Omega.{arith}
 use Rattle.slots.specs.BitLaws.{lowest-here, lowest-turn, lowest-end, trailing-small, trailing-fits}
 use Rattle.slots.proofs.Free.lowest.Goals as goal
