@@ -8,7 +8,7 @@ ghost use Rattle.std.specs.Prelude.{◌≡◌, ◌<◌, ◌≤◌, length};
 
 use datasample_access::{ListOutcome, Listed};
 use datasample_cache::{AddOutcome, Added, Evicted, Reply, SetUpOutcome};
-use std::num::wrapping_add_u64;
+use std::io::{Read, Stdin, Stdout};
 
 // How much there can be of each thing.
 #[derive(Clone, Copy)]
@@ -79,10 +79,10 @@ struct Sum {
 
 impl Sum {
     fn put(self, v: u64) -> Self {
-        let a = wrapping_add_u64(self.a, v);
+        let a = self.a.wrapping_add(v);
         Sum {
             a: a,
-            b: wrapping_add_u64(self.b, a),
+            b: self.b.wrapping_add(a),
         }
     }
 }
@@ -142,7 +142,7 @@ fn put_recent(w: &mut [u64; Place::END], i: u64, key: u64)
         return;
     }
     w[Place::RECENT + Most::DEPTH * row + at] = key;
-    w[Place::COUNTS + row] = wrapping_add_u64(count, 1);
+    w[Place::COUNTS + row] = count.wrapping_add(1);
 }
 
 // ---- an add
@@ -183,8 +183,8 @@ fn arrival_to(w: &mut [u64; Place::END], i: u64) -> Arrival
     ensures { length w.new ≡ length w.old }
 {
     let r = draw(w);
-    let time = wrapping_add_u64(w[Place::TIME], r % 4);
-    let sequence = wrapping_add_u64(w[Place::SEQUENCE], 1);
+    let time = w[Place::TIME].wrapping_add(r % 4);
+    let sequence = w[Place::SEQUENCE].wrapping_add(1);
     w[Place::TIME] = time;
     w[Place::SEQUENCE] = sequence;
     let writer = [(i % 256) as u8; 16];
@@ -244,8 +244,8 @@ fn put_list(w: &mut [u64; Place::END], list: &mut [u64; Most::LIST]) -> usize
     let j = (r / 1024) % d;
     let mut p: u64 = 0;
     while p < m {
-        let at = wrapping_add_u64(i, 5 * p) % n;
-        let place = wrapping_add_u64(j, 3 * p) % d;
+        let at = i.wrapping_add(5 * p) % n;
+        let place = j.wrapping_add(3 * p) % d;
         put_pair(w, list, p, at, place);
         p += 1;
     }
@@ -262,7 +262,7 @@ fn at_most(n: usize, most: usize) -> usize
 }
 
 fn lifted(rank: u64) -> u64 {
-    wrapping_add_u64(rank, 2147483648)
+    rank.wrapping_add(2147483648)
 }
 
 // Four words of an info, as they stand.
@@ -311,17 +311,17 @@ fn put_infos(w: &mut [u64; Place::END], n: usize)
 
 // ---- the end
 
-fn print_sum(title: &[u8], a: u64, b: u64) {
-    io::write_all(1, title);
-    io::print_decimal(1, a);
-    io::write_all(1, b" ");
-    io::print_decimal(1, b);
-    io::write_all(1, b"\n");
+fn print_sum(output: Stdout, title: &[u8], a: u64, b: u64) {
+    let _ = output.write_all(title);
+    let _ = print!(output; "{a}");
+    let _ = output.write_all(b" ");
+    let _ = print!(output; "{b}");
+    let _ = output.write_all(b"\n");
 }
 
-fn print_sums(w: &[u64; Place::END]) {
-    print_sum(b"sum ", w[Place::SUM], w[Place::SUM + 1]);
-    print_sum(b"own ", w[Place::OWN], w[Place::OWN + 1]);
+fn print_sums(output: Stdout, w: &[u64; Place::END]) {
+    print_sum(output, b"sum ", w[Place::SUM], w[Place::SUM + 1]);
+    print_sum(output, b"own ", w[Place::OWN], w[Place::OWN + 1]);
 }
 
 // ---- a step
@@ -336,10 +336,10 @@ struct Next {
 }
 
 // "A program that meets a refusal prints `refused` and stops."
-fn refused(head: index::Cache) -> Next
+fn refused(output: Stdout, head: index::Cache) -> Next
     ensures { result.left ≡ 0 }
 {
-    io::write_all(1, b"refused\n");
+    let _ = output.write_all(b"refused\n");
     Next {
         head: head,
         left: 0,
@@ -357,11 +357,11 @@ fn is_read(w: &[u64; Place::END], left: u64) -> bool {
 }
 
 // What follows with so many steps left; the sums are printed once there is none.
-fn next_step(w: &[u64; Place::END], head: index::Cache, left: u64) -> Next
+fn next_step(output: Stdout, w: &[u64; Place::END], head: index::Cache, left: u64) -> Next
     ensures { result.left ≡ left }
 {
     if left == 0 {
-        print_sums(w);
+        print_sums(output, w);
     }
     Next {
         head: head,
@@ -371,35 +371,35 @@ fn next_step(w: &[u64; Place::END], head: index::Cache, left: u64) -> Next
 }
 
 // The add to this instance was answered.
-fn after_add(w: &mut [u64; Place::END], left: u64, row: u64, r: AddOutcome) -> Next
+fn after_add(output: Stdout, w: &mut [u64; Place::END], left: u64, row: u64, r: AddOutcome) -> Next
     requires { 0 < left }
     ensures left_lt_left { result.left < left }
     ensures w_len_unchanged { length w.new ≡ length w.old }
 {
     let answer = r.answer;
     match answer {
-        Added::Refused(_) => refused(r.head),
+        Added::Refused(_) => refused(output, r.head),
         Added::Added { key, slot, evicted } => {
             put_recent(w, row, key);
             put_key(w, key);
             put_place(w, slot as u64, evicted_number(evicted));
-            next_step(w, r.head, left - 1)
+            next_step(output, w, r.head, left - 1)
         }
     }
 }
 
 // The infos stand in front of the words.
-fn after_read(w: &mut [u64; Place::END], left: u64, r: ListOutcome) -> Next
+fn after_read(output: Stdout, w: &mut [u64; Place::END], left: u64, r: ListOutcome) -> Next
     requires { 0 < left }
     ensures left_lt_left { result.left < left }
     ensures w_len_unchanged { length w.new ≡ length w.old }
 {
     let answer = r.answer;
     match answer {
-        Listed::Refused(_) => refused(r.head),
+        Listed::Refused(_) => refused(output, r.head),
         Listed::Infos(n) => {
             put_infos(w, n);
-            next_step(w, r.head, left - 1)
+            next_step(output, w, r.head, left - 1)
         }
     }
 }
@@ -428,10 +428,10 @@ fn load_of(input: &[u8]) -> Load {
     }
 }
 
-fn read_load() -> Load {
-    let mut input = [0u8; 19];
-    io::read_full(0, &mut input);
-    load_of(&input)
+fn read_load(mut input: Stdin) -> Load {
+    let mut load = [0u8; 19];
+    let _ = input.read_exact(&mut load);
+    load_of(&load)
 }
 
 // The depth of the driver's ring.
@@ -455,12 +455,12 @@ fn warm_up(n: u64, d: u64) -> u64
 }
 
 // The driver's numbers before the first step, and that step.
-fn begin(w: &mut [u64; Place::END], load: Load, r: SetUpOutcome) -> Next
+fn begin(output: Stdout, w: &mut [u64; Place::END], load: Load, r: SetUpOutcome) -> Next
     ensures { length w.new ≡ length w.old }
 {
     let answer = r.answer;
     match answer {
-        Reply::Refused(_) => refused(r.head),
+        Reply::Refused(_) => refused(output, r.head),
         Reply::Ok => {
             let n = load.instances as u64;
             let d = depth_of(load.depth);
@@ -469,7 +469,7 @@ fn begin(w: &mut [u64; Place::END], load: Load, r: SetUpOutcome) -> Next
             w[Place::N] = n;
             w[Place::D] = d;
             w[Place::OPERATIONS] = operations;
-            next_step(w, r.head, warm_up(n, d) + operations)
+            next_step(output, w, r.head, warm_up(n, d) + operations)
         }
     }
 }
@@ -490,8 +490,9 @@ fn no_sample() -> sampleinfo::Sample {
     sampleinfo::Sample::empty()
 }
 
-fn main() {
-    let load = read_load();
+fn main(rt: HostRuntime) {
+    let output = rt.stdout();
+    let load = read_load(rt.stdin());
     let empty = no_sample();
     let mut t = [empty; index::Cache::SLOTS];
     let mut ws = [0u64; Most::INDEX];
@@ -505,12 +506,12 @@ fn main() {
         load.keep,
         load.instances,
     );
-    let mut next = begin(&mut w, load, set);
+    let mut next = begin(output, &mut w, load, set);
     while 0 < next.left {
         if next.read {
             let n = put_list(&mut w, &mut list);
             let r = datasample_access::read_by_keys(next.head, &mut ws, &mut t, &list[..n], &mut w);
-            next = after_read(&mut w, next.left, r);
+            next = after_read(output, &mut w, next.left, r);
         } else {
             let a = next_arrival(&mut w, next.left);
             let writer = a.writer;
@@ -518,7 +519,7 @@ fn main() {
                 next.head, &mut ws, &mut t, a.instance, writer, a.sequence, a.time, a.kind,
                 a.handle,
             );
-            next = after_add(&mut w, next.left, a.row, r);
+            next = after_add(output, &mut w, next.left, a.row, r);
         }
     }
 }

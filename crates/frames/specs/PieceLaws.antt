@@ -48,6 +48,22 @@ piece-long got wanted end p e g = go got.failed (eqb got.n wanted) refl (eqb got
     go false false k true false h = absurd (true≢false (sym h))
     go false false k false b h = absurd (true≢false (sym h))
 
+-- a piece that could not be read is one of a read that failed
+pub piece_failed : (got : Got) (wanted : ℕ) (end : Bool) (p : Piece) → p ≡ piece_of got wanted end → p.failed ≡ true → got.failed ≡ true
+unfolding piece_of
+piece_failed got wanted end p e g = go got.failed (eqb got.n wanted) (eqb got.n 0) end (sym (ap (λ (x : Piece). x.failed) e) ∙ g)
+  where
+    made : Bool → Bool → Bool → Bool → Piece
+    made f y z b = cond f (record { go = false; cut = false; failed = true })
+        (cond y (record { go = true; cut = false; failed = false }) (cond z (cond b (record { go = false; cut = false; failed = false }) (record { go = false; cut = true; failed = false })) (record { go = false; cut = true; failed = false })))
+
+    go : (f y z b : Bool) → (made f y z b).failed ≡ true → f ≡ true
+    go true y z b h = refl
+    go false true z b h = h
+    go false false true true h = h
+    go false false true false h = h
+    go false false false b h = h
+
 module _ (came : Piece) (version : ℕ) where
   pub version-wrong : (version ≡ 1 → ⊥) → came.go ≡ true → record { go = false; cut = true; failed = false } ≡ version_of came version
   unfolding version_of
@@ -70,6 +86,16 @@ module _ (came : Piece) (version : ℕ) where
       go true p true q h = eqb-true version 1 q
       go true p false q h = absurd (true≢false (sym h))
       go false p y q h = absurd (true≢false (sym h ∙ p))
+
+  -- and a version that could not be read is none
+  pub version_failed : (r : Piece) → r ≡ version_of came version → r.failed ≡ true → came.failed ≡ true
+  unfolding version_of
+  version_failed r e g = go came.go (eqb version 1) (sym (ap (λ (x : Piece). x.failed) e) ∙ g)
+    where
+      go : (x y : Bool) → (cond x (cond y came (record { go = false; cut = true; failed = false })) came).failed ≡ true → came.failed ≡ true
+      go true true h = h
+      go true false h = absurd (true≢false (sym h))
+      go false y h = h
 
 pub front_long : (l : List ℕ) (n k : ℕ) → Most n (length l) k → k ≡ length (take k l)
 front_long l n k h = sym (length-take-le k l h.there)

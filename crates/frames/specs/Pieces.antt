@@ -1,5 +1,5 @@
 -- What is made of the bytes that came, and the front of a buffer.
-use Rattle.std.specs.Prelude.{◌≡◌, Bool, true, false, cond, List, ℕ, ◌+◌, ◌≤◌, ◌<◌, eqb}
+use Rattle.std.specs.Prelude.{◌≡◌, Bool, true, false, cond, ℕ, ◌≤◌, eqb}
 use Rattle.frames.specs.declared.Got.{Got}
 use Rattle.frames.specs.declared.Piece.{Piece}
 

@@ -1,20 +1,14 @@
 -- A turn of the program: which record it answered, and with what; and that something stands in memory before each record and after it.
-use Rattle.std.specs.Prelude.{◌≡◌, refl, true, false, not, List, ℕ, ◌≤◌, ◌<◌, length, take, replicate}
-use Rattle.std.proofs.Common.{sym, ap, ◌∙◌, true≢false, arith, length-take}
-use Rattle.std.proofs.Math.Option.{Option, some, none}
-use Rattle.std.proofs.lemmas.Bool.{not-false}
-use Rattle.std.proofs.lemmas.List.{length-replicate}
-use Rattle.sampleinfo.specs.Samples.{empty_sample}
+use Rattle.std.specs.Prelude.{◌≡◌, false, List, ℕ, ◌≤◌, length, take}
+use Rattle.std.proofs.Math.Option.{Option}
 use Rattle.sampleinfo.specs.declared.Sample.{Sample}
 use Rattle.samples.specs.Table.{empty_table}
 use Rattle.model.specs.Model.{Model}
 use Rattle.records.specs.Format.{number_at}
 use Rattle.session.specs.Session.{turn}
-use Rattle.session.specs.Stands.{Stands, Kept, Standing, Responds, Responded}
+use Rattle.session.specs.Stands.{Standing, Responds}
 use Rattle.replies.specs.declared.Session.{Session}
-use Rattle.replies.specs.Steps.{starting}
 use Rattle.session.specs.declared.Answered.{Answered}
-use Rattle.frames.specs.declared.Record.{Record}
 use Rattle.session_main.specs.declared.After.{After}
 
 -- no record came
@@ -34,24 +28,6 @@ pub data Turned (st : Option Model) (s : Session) (ws : List ℕ) (t : List Samp
       → Responds (turn st (take (number_at 2 two 0) rec)) s ws t ps is was (record { session = r.session; size = r.told }) after then qs js line
       → Turned st s ws t two rec ps is was r after then qs js line
 
-pub part-long : (l : List ℕ) (k : ℕ) → (k ≤ length l) × (k < 65536) → k ≡ length (take k l)
-part-long l k h = omega (arith, h.0, length-take k l)
-
-pub turn_stopped : (s : Session) (ws : List ℕ) (t : List Sample) (two rec ps is was : List ℕ) (r : After) → r ≡ stopped_at s
-    → (st : Option Model) → Stands st s ws t → Turned st s ws t two rec ps is was r ws t ps is was
-turn_stopped s ws t two rec ps is was r e st l = ended e refl refl refl refl refl
-
-pub turn-answered : (s : Session) (ws after : List ℕ) (t then : List Sample) (two rec ps is was qs js line : List ℕ) (came : Record) (a : Answered) (r : After)
-    → (came.size ≤ length rec) × (came.size < 65536) → (came.piece.go ≡ true → came.size ≡ number_at 2 two 0) → not came.piece.go ≡ false
-    → Responded (take came.size rec) s ws t ps is was a after then qs js line → Tells a line r
-    → (st : Option Model) → Stands st s ws t → Turned st s ws t two rec ps is was r after then qs js line
-turn-answered s ws after t then two rec ps is was qs js line came a r h says goes f k st l =
-    let n : ℕ = came.size in
-    let e : n ≡ number_at 2 two 0 = says (not-false came.piece.go goes) in
-    let y : Responds (turn st (take n rec)) s ws t ps is was a after then qs js line = f.stood st (omega (arith, h.1, length-take n rec)) l in
-    let z : r.told ≡ a.size = k.bytes (omega (arith, y.lines.fits, y.lines.place, y.lines.long)) in
-    answered (rw (← e) h.0) (rw (← e, z, k.session) y)
-
 -- ---- the loop
 
 -- what holds before each record: the table, the length bytes and the record's bytes keep their lengths, something stands, and until a set-up is accepted the
@@ -62,45 +38,3 @@ pub record Going (s : Session) (ws : List ℕ) (t : List Sample) (two rec : List
   pub bytes : length rec ≡ 65535
   pub standing : Standing s ws t
   pub start : s.ready ≡ false → t ≡ empty_table
-
--- before the first one no set-up was accepted
-pub begins : (s : Session) (ws : List ℕ) (e : Sample) (b : ℕ) → s ≡ starting → e ≡ empty_sample → Going s ws (replicate 256 e) (replicate 2 b) (replicate 65535 b)
-begins s ws e b h k = record {
-  table = length-replicate 256 e;
-  head = length-replicate 2 b;
-  bytes = length-replicate 65535 b;
-  standing = record { what = none; stands = record { unready = ap (λ (x : Session). x.ready) h; long = length-replicate 256 e } };
-  start = λ z. ap (replicate 256) k;
-}
-
--- a turn leaves something standing, and the table of the start where no set-up was accepted
-module _ (s : Session) (ws after : List ℕ) (t then : List Sample) (two rec ps is was qs js line : List ℕ) (r : After)
-    (f : (st : Option Model) → Stands st s ws t → Turned st s ws t two rec ps is was r after then qs js line) (x : Standing s ws t) where
-  pub still-standing : Standing r.session after then
-  still-standing = go (f x.what x.stands)
-    where
-      go : Turned x.what s ws t two rec ps is was r after then qs js line → Standing r.session after then
-      go (ended e a b c d l) = rw (e, a, b) x
-      go (answered a y) = record { what = (turn x.what (take (number_at 2 two 0) rec)).then; stands = y.stands }
-
-  pub still-fresh : (s.ready ≡ false → t ≡ empty_table) → r.session.ready ≡ false → then ≡ empty_table
-  still-fresh start z = go (f x.what x.stands)
-    where
-      by : (st : Option Model) → Stands st r.session after then → Kept st s ws t r.session after then → then ≡ empty_table
-      by none y k = k.2 ∙ start (sym (ap (λ (q : Session). q.ready) k.0) ∙ z)
-      by (some m) y k = absurd (true≢false (sym y.ready ∙ z))
-
-      go : Turned x.what s ws t two rec ps is was r after then qs js line → then ≡ empty_table
-      go (ended e a b c d l) = b ∙ start (sym (ap (λ (q : After). q.session.ready) e) ∙ z)
-      go (answered a y) = by (turn x.what (take (number_at 2 two 0) rec)).then y.stands y.kept
-
-pub goes_on : (s : Session) (ws after : List ℕ) (t then : List Sample) (two rec ps is was qs js line : List ℕ) (r : After)
-    → ((st : Option Model) → Stands st s ws t → Turned st s ws t two rec ps is was r after then qs js line)
-    → (two₀ rec₀ : List ℕ) → Going s ws t two₀ rec₀ → length then ≡ length t → length two ≡ length two₀ → length rec ≡ length rec₀ → Going r.session after then two rec
-goes_on s ws after t then two rec ps is was qs js line r f two₀ rec₀ g e h k = record {
-  table = e ∙ g.table;
-  head = h ∙ g.head;
-  bytes = k ∙ g.bytes;
-  standing = still-standing s ws after t then two rec ps is was qs js line r f g.standing;
-  start = still-fresh s ws after t then two rec ps is was qs js line r f g.standing g.start;
-}

@@ -9,9 +9,20 @@ ghost use Rattle.model.specs.Model.{Model};
 ghost use Rattle.session.specs.Stands.{Stands};
 ghost use Rattle.session_main.specs.RecordLaws.{stopped_at, Tells, Turned};
 
-use frames::{Piece, Record, Told};
+use frames::{Piece, Record, Source, Told};
 use replies::Session;
 use session::Answered;
+use std::env::FillError;
+use std::io;
+use std::io::{Stderr, Stdin, Stdout};
+use std::rt::Env;
+
+// Where lines go, and where what went wrong is told.
+#[derive(Clone, Copy)]
+struct Streams {
+    output: Stdout,
+    errors: Stderr,
+}
 
 // ---- what a session does not print of an info, for the comparison with the Rust
 
@@ -48,68 +59,57 @@ fn samples_told(line: &[u8]) -> usize {
     n
 }
 
-fn tell_writer(writer: [u8; 16]) -> bool {
+fn tell_writer(output: Stdout, writer: [u8; 16]) -> io::Result<()> {
     let mut i = 0;
     while i < 16 {
-        if !io::print_hex(1, writer[i] as u64, 2) {
-            return false;
-        }
+        let byte = writer[i];
+        print!(output; "{byte:02x}")?;
         i += 1;
     }
-    true
+    Ok(())
 }
 
-fn tell_info(writer: [u8; 16], sequence_number: u64) -> bool {
-    if !tell_writer(writer) {
-        return false;
-    }
-    if !io::write_all(1, b" ") {
-        return false;
-    }
-    if !io::print_decimal(1, sequence_number) {
-        return false;
-    }
-    io::write_all(1, b"\n")
+fn tell_info(output: Stdout, writer: [u8; 16], sequence_number: u64) -> io::Result<()> {
+    tell_writer(output, writer)?;
+    println!(output; " {sequence_number}")
 }
 
 // A line for each info: its writer and its sequence number.
-fn tell_writers(infos: &[u64], n: usize) -> bool {
+fn tell_writers(output: Stdout, infos: &[u64], n: usize) -> io::Result<()> {
     let mut p = 0;
     while p < n {
         let info = infos::get_info(infos, p);
         let writer = info.publication_handle;
-        if !tell_info(writer, info.sequence_number) {
-            return false;
-        }
+        tell_info(output, writer, info.sequence_number)?;
         p += 1;
     }
-    true
+    Ok(())
 }
 
 // ---- the output
 
-fn tell_more(full: bool, told: Told, line: &[u8], infos: &[u64]) -> bool {
-    if !told.go {
-        return false;
-    }
+fn tell_more(output: Stdout, full: bool, told: Told, line: &[u8], infos: &[u64]) -> io::Result<()> {
+    told.done?;
     if !full {
-        return true;
+        return Ok(());
     }
-    tell_writers(infos, samples_told(line))
+    tell_writers(output, infos, samples_told(line))
 }
 
 // "A missing or wrong version byte or a cut-off record prints it and stops."
-fn cut_off() {
-    let go = io::write_all(1, b"refused 1\n");
-    frames::checked(go, b"session_main: write");
+fn cut_off(streams: Streams) {
+    let done = streams.output.write_all(b"refused 1\n");
+    frames::checked(&streams.errors, done, b"session_main: write");
 }
 
 // No whole piece of the input came: its end, a cut-off piece, or a failed read.
-fn over(piece: Piece) {
+fn over(streams: Streams, piece: Piece, last: io::Result<()>) {
     if piece.cut {
-        cut_off();
+        cut_off(streams);
     }
-    frames::checked(!piece.failed, b"session_main: read");
+    if piece.failed {
+        frames::checked(&streams.errors, last, b"session_main: read");
+    }
 }
 
 // ---- a record
@@ -122,10 +122,10 @@ struct After {
     told: usize,
 }
 
-fn stopped(s: Session, came: Record) -> After
+fn stopped(streams: Streams, s: Session, came: Record, last: io::Result<()>) -> After
     ensures { result ≡ stopped_at s }
 {
-    over(came.piece);
+    over(streams, came.piece, last);
     After {
         session: s,
         go: false,
@@ -134,20 +134,22 @@ fn stopped(s: Session, came: Record) -> After
 }
 
 // The lines of a record that was answered. A failed write ends the session, and is told.
-fn tell_all(full: bool, a: Answered, line: &[u8], infos: &[u64]) -> After
+fn tell_all(streams: Streams, full: bool, a: Answered, line: &[u8], infos: &[u64]) -> After
     ensures { Tells a line.now result }
 {
-    let told = frames::tell(line, a.size);
-    let go = tell_more(full, told, line, infos);
+    let told = frames::tell(&streams.output, line, a.size);
+    let done = tell_more(streams.output, full, told, line, infos);
     let after = a.session;
     After {
         session: after,
-        go: frames::checked(go, b"session_main: write"),
+        go: frames::checked(&streams.errors, done, b"session_main: write"),
         told: told.size,
     }
 }
 
 fn one_record(
+    streams: Streams,
+    input: &mut Source<Stdin>,
     s: Session,
     ws: &mut [u64; 928],
     t: &mut [sampleinfo::Sample],
@@ -160,13 +162,13 @@ fn one_record(
 ) -> After
     ensures { (st : Option Model) → Stands st s ws.old t.old → Turned st s ws.old t.old two.new rec.new pairs.old infos.old line.old result ws.new t.new pairs.new infos.new line.new }
 {
-    let came = frames::next_record(two, rec);
+    let came = frames::next_record(input, two, rec);
     if !came.piece.go {
-        return stopped(s, came);
+        return stopped(streams, s, came, input.last);
     }
     let n = came.size;
     let r = session::respond(s, ws, t, &rec[..n], pairs, infos, line);
-    tell_all(full, r, line, infos)
+    tell_all(streams, full, r, line, infos)
 }
 
 fn empty_record() -> sampleinfo::Sample
@@ -200,25 +202,35 @@ struct Asked {
 }
 
 // Nothing, or --full alone.
-fn arguments() -> Asked {
-    let count = os::arg_count();
-    if count < 2 {
-        return Asked {
+fn arguments<R: Env>(rt: &R) -> Asked {
+    let mut word = [0u8; 16];
+    match rt.arg(1, &mut word) {
+        Ok(n) => {
+            let full = is_full(&word[..n]);
+            Asked {
+                known: full && is_missing(rt, 2),
+                full: full,
+            }
+        }
+        Err(FillError::TooLong) => Asked {
+            known: false,
+            full: false,
+        },
+        Err(FillError::NotPresent) => Asked {
             known: true,
             full: false,
-        };
-    }
-    let mut word = [0u8; 16];
-    let n = os::arg(1, &mut word);
-    let full = is_full(&word[..n]);
-    Asked {
-        known: full && count == 2,
-        full: full,
+        },
     }
 }
 
-fn usage() {
-    io::write_all(2, b"usage: session_main [--full]\n");
+// There is no argument at this place.
+fn is_missing<R: Env>(rt: &R, place: usize) -> bool {
+    let mut word = [0u8; 16];
+    matches!(rt.arg(place, &mut word), Err(FillError::NotPresent))
+}
+
+fn usage(streams: Streams) {
+    let _ = streams.errors.write_all(b"usage: session_main [--full]\n");
 }
 
 // ---- the session
@@ -237,16 +249,16 @@ fn not_begun() -> Begun {
     }
 }
 
-fn begin() -> Begun {
-    let ask = arguments();
+fn begin<R: Env>(rt: &R, streams: Streams, input: &mut Source<Stdin>) -> Begun {
+    let ask = arguments(rt);
     if !ask.known {
-        usage();
+        usage(streams);
         return not_begun();
     }
     let mut one = [0u8; 1];
-    let version = frames::next_version(&mut one);
+    let version = frames::next_version(input, &mut one);
     if !version.go {
-        over(version);
+        over(streams, version, input.last);
         return not_begun();
     }
     Begun {
@@ -267,8 +279,13 @@ fn turns_after(turns: u64, go: bool) -> u64
 }
 
 // Its only way out is the end of its loop: with three more its machine-made derivation was a third longer.
-fn main() {
-    let begun = begin();
+fn main(rt: HostRuntime) {
+    let streams = Streams {
+        output: rt.stdout(),
+        errors: rt.stderr(),
+    };
+    let mut input = Source::new(rt.stdin());
+    let begun = begin(&rt, streams, &mut input);
     let empty = empty_record();
     let mut t = [empty; 256];
     let mut ws = [0u64; 928];
@@ -281,7 +298,8 @@ fn main() {
     let mut turns = begun.turns;
     while turns > 0 {
         let r = one_record(
-            s, &mut ws, &mut t, &mut two, &mut rec, &mut pairs, &mut infos, &mut line, begun.full,
+            streams, &mut input, s, &mut ws, &mut t, &mut two, &mut rec, &mut pairs, &mut infos,
+            &mut line, begun.full,
         );
         s = r.session;
         turns = turns_after(turns, r.go);
