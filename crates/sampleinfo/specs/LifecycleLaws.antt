@@ -1,9 +1,8 @@
 -- The lifecycle step as the code meets it, the answer on the left; and what holds of every step.
-use Rattle.std.specs.Prelude.{◌≡◌, Bool, ◌&&◌, ℕ, ◌+◌, ◌≤◌, ◌<◌}
+use Rattle.std.specs.Prelude.{◌≡◌, Bool, ◌&&◌, ◌+◌, ◌≤◌}
 use Rattle.std.proofs.Math.Path.{refl, ap}
-use Rattle.std.proofs.Common.{sym, ◌∙◌, arith, le-leb}
+use Rattle.std.proofs.Common.{sym, ◌∙◌, arith}
 use Rattle.std.proofs.Math.Bool.{true, false, cond}
-use Rattle.std.proofs.lemmas.Bool.{lt-leb}
 use Rattle.std.proofs.Math.Dec.{leb}
 use Rattle.sampleinfo.specs.Counts.{total, disposed_count, no_writers_count}
 use Rattle.sampleinfo.specs.Lifecycle.{state_of, counts_of, with_state, counts_after, is_alive, is_reborn, is_last, becomes, lifecycle_of, stepped_of, left_by, no_writers_of, lifecycle_number, stepped_number}
@@ -14,40 +13,9 @@ use Rattle.sampleinfo.specs.declared.InstanceMetaData.{InstanceMetaData}
 use Rattle.sampleinfo.specs.declared.Stepped.{Stepped}
 use Rattle.sampleinfo.specs.declared.Stepped.TheVariants as stepped
 
--- ---- one law for each kind of way through the step
-
-abbrev step_from : InstanceState → InstanceState → InstanceMetaData → Stepped
-step_from old new i = cond (is_reborn old new && leb 2147483647 (total (counts_of i))) stepped.Refused (stepped.Now (with_state i new (counts_after old new (counts_of i))))
-
-same-counts : (old new : InstanceState) (c : NotAliveGenerationCounts) → is_reborn old new ≡ false → counts_after old new c ≡ c
-same-counts Alive Alive c e = refl
-same-counts Alive NotAliveDisposed c e = refl
-same-counts Alive NotAliveNoWriters c e = refl
-same-counts NotAliveDisposed Alive c e = cc
-same-counts NotAliveDisposed NotAliveDisposed c e = refl
-same-counts NotAliveDisposed NotAliveNoWriters c e = refl
-same-counts NotAliveNoWriters Alive c e = cc
-same-counts NotAliveNoWriters NotAliveDisposed c e = refl
-same-counts NotAliveNoWriters NotAliveNoWriters c e = refl
-
-is-step : (i : InstanceMetaData) (old new : InstanceState) → state_of i ≡ old → lifecycle_of i new ≡ step_from old new i
-unfolding lifecycle_of
-is-step i old new e = ap (λ (o : InstanceState). step_from o new i) e
+-- ---- the ways through the step are in proofs/StepLaws.antt
 
 module _ (i : InstanceMetaData) (new : InstanceState) where
-  pub step-alive : (x : InstanceMetaData) → x ≡ with_state i new (counts_of i) → state_of i ≡ Alive → stepped.Now x ≡ lifecycle_of i new
-  step-alive x e o = rw (is-step i Alive new o, e, same-counts Alive new (counts_of i) refl)
-
-  pub step-dead : (old to : InstanceState) (x : InstanceMetaData) → x ≡ with_state i new (counts_of i) → state_of i ≡ old → new ≡ to → is_reborn old to ≡ false → stepped.Now x ≡ lifecycle_of i new
-  step-dead old to x e o n r = rw (is-step i old new o, e, n, r, same-counts old to (counts_of i) r)
-
-  pub step-full : (old to : InstanceState) (t : ℕ) → state_of i ≡ old → new ≡ to → is_reborn old to ≡ true → t ≡ total (counts_of i) → 2147483647 ≤ t → stepped.Refused ≡ lifecycle_of i new
-  step-full old to t o n r e h = rw (is-step i old new o, n, r, ← e, le-leb 2147483647 t h)
-
-  pub step-reborn : (old to : InstanceState) (t : ℕ) (c : NotAliveGenerationCounts) (x : InstanceMetaData) → x ≡ with_state i new c → state_of i ≡ old → new ≡ to → is_reborn old to ≡ true
-      → t ≡ total (counts_of i) → t < 2147483647 → c ≡ counts_after old to (counts_of i) → stepped.Now x ≡ lifecycle_of i new
-  step-reborn old to t c x e o n r q h k = rw (is-step i old new o, e, n, r, ← q, lt-leb 2147483647 t h, k)
-
   -- what the answer of a step tells
 
   module _ (x : Stepped) (e : x ≡ lifecycle_of i new) where
@@ -135,12 +103,7 @@ total-after NotAliveNoWriters Alive c = omega arith
 total-after NotAliveNoWriters NotAliveDisposed c = omega arith
 total-after NotAliveNoWriters NotAliveNoWriters c = omega arith
 
--- a dead instance dies once: no further death moves its counts, and a no-writers event leaves it as it is
-pub dies-once : (old new : InstanceState) (c : NotAliveGenerationCounts) → is_alive old ≡ false → is_alive new ≡ false → counts_after old new c ≡ c
-dies-once Alive new c e h = cc
-dies-once NotAliveDisposed new c e h = same-counts NotAliveDisposed new c h
-dies-once NotAliveNoWriters new c e h = same-counts NotAliveNoWriters new c h
-
+-- a dead instance dies once: a no-writers event leaves it as it is (no further death moves its counts: proofs/StepLaws.antt)
 pub left-once : (i : InstanceMetaData) → is_alive (state_of i) ≡ false → no_writers_of i ≡ i
 left-once i h = sym (go (state_of i) refl h)
   where

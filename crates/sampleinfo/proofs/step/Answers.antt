@@ -1,5 +1,5 @@
 use Rattle.std.proofs.Common.{rules}
-use Rattle.sampleinfo.specs.LifecycleLaws.{step-alive, step-dead, step-full, step-reborn}
+use Rattle.sampleinfo.proofs.StepLaws.{step-alive, step-dead, step-full, step-reborn}
 use Rattle.sampleinfo.proofs.step.Goals as goal
 
 pub returns-then-total-ge-MAX_TOTAL : goal.returns-then-total-ge-MAX_TOTAL
