@@ -6,7 +6,7 @@ cd "$(dirname "$0")/.." || exit 1
 . tests/room.bash
 
 # A repository of three crates that the program is made of, and one that it is not; kit libraries do not count.
-mkdir -p "$room/repo/tools" "$room/bin"
+mkdir -p "$room/repo/tools" "$room/repo/crates/session_main" "$room/bin"
 cp session "$room/repo/session"
 cp tools/run "$room/repo/tools/run"
 cat >"$room/repo/crates.txt" <<'END'
@@ -20,17 +20,19 @@ printf '#!/bin/sh\necho x86_64\n' >"$room/bin/uname"
 cat >"$room/bin/rt" <<'END'
 #!/bin/sh
 echo "called: $*" >>"$ROOM/called"
-[ "$(pwd)" = "$ROOM/repo" ] || echo "called in $(pwd)"
+[ "$(pwd)" = "$ROOM/repo/crates/session_main" ] || echo "called in $(pwd)"
 cat >/dev/null # rt must not eat the session
-echo "rt: lists proved (unchanged since it was last proved)"
+echo "rt: chose --jobs 2 for lists"
+echo "logic=proved functions=0 sum=1"
 echo "fn model::step: proved"
-echo "rt: model proved (12 s)"
-[ -z "${FAILS:-}" ] || { echo "main.rt:23:15: error" >&2; echo "rt: session_main NOT PROVED (exit 1, 5 s)"; exit 1; }
-echo "rt: session_main proved (3 s)"
-echo "rt: session_main ran, and wrote what its file 'stdout' has (0 s)"
-mkdir -p target/bin
-printf '#!/bin/sh\nexec cat\n' >target/bin/session_main
-chmod +x target/bin/session_main
+echo "logic=proved functions=1 sum=1"
+[ -z "${FAILS:-}" ] || { echo "main.rt:23:15: error" >&2; echo "logic=not-proved"; exit 1; }
+echo "logic=proved functions=2 sum=1"
+echo "rt: running out/session_main; to give it other input, run that file yourself"
+echo "refused 1"
+mkdir -p out
+printf '#!/bin/sh\nexec cat\n' >out/session_main
+chmod +x out/session_main
 END
 chmod +x "$room/bin/uname" "$room/bin/rt"
 echo "a session" >"$room/a session"
@@ -61,7 +63,7 @@ refused "two arguments" 2 "usage: ./session [FILE]"
 FAILS=yes session "$room/a session"
 [ "$status" -eq 1 ] || wrong "a build that fails: status $status"
 [ ! -s "$room/printed" ] || wrong "a build that fails: printed '$(cat "$room/printed")'"
-for line in "session: 2 of 3 crates proved" "main.rt:23:15: error" "rt: session_main NOT PROVED (exit 1, 5 s)"; do
+for line in "session: 2 of 3 crates proved" "main.rt:23:15: error" "logic=not-proved"; do
   grep -qxF "$line" "$room/said" || wrong "a build that fails: no line '$line'"
 done
 
@@ -71,12 +73,12 @@ session "$room/a session"
 cmp -s "$room/printed" "$room/a session" || wrong "first use: printed '$(cat "$room/printed")'"
 printf 'session: %s\n' "proving and building the program, some minutes, once" "1 of 3 crates proved" "2 of 3 crates proved" "3 of 3 crates proved" |
   cmp -s - "$room/said" || wrong "first use: said '$(cat "$room/said")'"
-[ "$(cat "$room/called")" = "called: check session_main" ] || wrong "first use: rt was $(cat "$room/called")"
+[ "$(cat "$room/called")" = "called: run" ] || wrong "first use: rt was $(cat "$room/called")"
 
 # then it starts at once; and standard input is the program's, also where it is built first
 session <"$room/a session"
 { [ "$status" -eq 0 ] && cmp -s "$room/printed" "$room/a session" && [ ! -s "$room/said" ]; } || wrong "second use: status $status, said '$(cat "$room/said")'"
-rm -r "$room/repo/target"
+rm -r "$room/repo/crates/session_main/out"
 session <"$room/a session"
 cmp -s "$room/printed" "$room/a session" || wrong "standard input on first use: printed '$(cat "$room/printed")'"
 

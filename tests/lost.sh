@@ -3,7 +3,7 @@
 # with status 1; a closed pipe stays quiet; input that comes byte by byte is answered as at once; an argument that it does not know prints its usage.
 set -u
 cd "$(dirname "$0")/.." || exit 1
-[ -x target/bin/session_main ] || { echo "no target/bin/session_main: rt check session_main builds it"; exit 1; }
+[ -x crates/session_main/out/session_main ] || { echo "no crates/session_main/out/session_main: rt run in crates/session_main builds it"; exit 1; }
 . tests/room.bash
 
 # told NAME STATUS WORDS: status 1, and one line of the program's with these words in the file `said`

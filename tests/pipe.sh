@@ -2,7 +2,7 @@
 # A station talks to the session program over a pipe: each answer comes before the next record is sent, and a closed output ends it quietly.
 set -u
 cd "$(dirname "$0")" || exit 1
-[ -x ../target/bin/session_main ] || { echo "no target/bin/session_main: rt check session_main builds it"; exit 1; }
+[ -x ../crates/session_main/out/session_main ] || { echo "no crates/session_main/out/session_main: rt run in crates/session_main builds it"; exit 1; }
 
 # say HEX: these bytes to the program; hear TEXT: its next line, within five seconds
 say() { printf "$(sed 's/../\\x&/g' <<<"$1")" >&4; }

@@ -7,12 +7,13 @@ cd "$(dirname "$0")/.." || exit 1
 
 # script FILE: a program of the lines that follow
 script() {
+  mkdir -p "$(dirname "$1")"
   { echo '#!/bin/sh' && cat; } >"$1"
   chmod +x "$1"
 }
 
 # A repository of its own, so that no built program is touched; in tools/ alone what the runner may call, and no rt.
-mkdir -p "$room/repo/tools" "$room/repo/target/bin" "$room/tools" "$room/links" "$room/kit/bin" "$room/kit/on/aarch64/toolchain/bin"
+mkdir -p "$room/repo/tools" "$room/tools" "$room/links" "$room/kit/bin" "$room/kit/on/aarch64/toolchain/bin"
 cp tools/run "$room/repo/tools/run"
 for tool in sh cat env sed readlink sleep; do ln -s "$(command -v "$tool")" "$room/tools/$tool"; done
 # shellcheck disable=SC2016
@@ -25,13 +26,13 @@ env | sed -n 's/^\(QEMU_.*\|LD_PRELOAD=.*\)/\1/p' >"$room/settings"
 shift 3
 exec "\$@"
 END
-script "$room/repo/target/bin/words" <<<'printf "[%s]" "$@"'
-script "$room/repo/target/bin/through" <<<'exec cat'
-script "$room/repo/target/bin/teller" <<<'echo out; echo "teller: write: No space left on device" >&2; echo "and more" >&2'
-script "$room/repo/target/bin/no_newline" <<<'printf "usage: no_newline" >&2'
-script "$room/repo/target/bin/seven" <<<'echo "seven: odd" >&2; exit 7'
-script "$room/repo/target/bin/closed" <<<'kill -PIPE $$'
-script "$room/repo/target/bin/waits" <<END
+script "$room/repo/crates/words/out/words" <<<'printf "[%s]" "$@"'
+script "$room/repo/crates/through/out/through" <<<'exec cat'
+script "$room/repo/crates/teller/out/teller" <<<'echo out; echo "teller: write: No space left on device" >&2; echo "and more" >&2'
+script "$room/repo/crates/no_newline/out/no_newline" <<<'printf "usage: no_newline" >&2'
+script "$room/repo/crates/seven/out/seven" <<<'echo "seven: odd" >&2; exit 7'
+script "$room/repo/crates/closed/out/closed" <<<'kill -PIPE $$'
+script "$room/repo/crates/waits/out/waits" <<END
 echo \$\$ >"$room/waits"
 exec sleep 20
 END
@@ -63,7 +64,7 @@ refused() {
 emulated() {
   local tools=$2/on/aarch64/toolchain
   [ -e "$room/emulated" ] || wrong "$1: the emulator was not called"
-  printf '%s\n' "$tools/lib/ld-linux-x86-64.so.2" --library-path "$tools/lib" "$room/repo/tools/../target/bin/words" "one  word" "" "*" >"$room/expected"
+  printf '%s\n' "$tools/lib/ld-linux-x86-64.so.2" --library-path "$tools/lib" "$room/repo/tools/../crates/words/out/words" "one  word" "" "*" >"$room/expected"
   cmp -s "$room/expected" "$room/emulated" || wrong "$1: the emulator's words: $(tr '\n' '|' <"$room/emulated")"
   rm -f "$room/emulated"
 }
@@ -92,7 +93,7 @@ kit=$room/kit
 run riscv64 words
 refused "a processor that the kit does not know" "riscv64"
 run aarch64 unbuilt
-refused "not built" "target/bin/unbuilt is not built"
+refused "not built" "crates/unbuilt/out/unbuilt is not built"
 run aarch64 ''
 refused "no name" "not built"
 run aarch64
@@ -105,7 +106,7 @@ run x86_64 words "one  word" "" "*"
 is "direct" 0 "[one  word][][*]" ""
 [ ! -e "$room/emulated" ] || wrong "direct: the emulator was called"
 run x86_64 unbuilt
-refused "direct, not built" "target/bin/unbuilt is not built"
+refused "direct, not built" "crates/unbuilt/out/unbuilt is not built"
 
 kit=$room/kit
 for machine in x86_64 aarch64; do

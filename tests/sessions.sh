@@ -8,7 +8,7 @@ tests=$(cd "$(dirname "$0")" && pwd) || exit 1
 # shellcheck source=tests/room.bash
 . "$tests/room.bash"
 if [ $# -eq 0 ]; then
-  [ -x "$tests/../target/bin/session_main" ] || { echo "no target/bin/session_main: rt check session_main builds it"; exit 1; }
+  [ -x "$tests/../crates/session_main/out/session_main" ] || { echo "no crates/session_main/out/session_main: rt run in crates/session_main builds it"; exit 1; }
   set -- "$tests/../tools/run" session_main
   full=yes
 fi
