@@ -1,19 +1,28 @@
 #!/usr/bin/env bash
-# Edits of lent functions (tools/lent/README.md): the code of the function is wrong, its derivation is made again for the wrong code, and the
-# hand-written proof must be refused at the need that states the contract. `rt must-fail` cannot show that, since it does not make the derivation again.
-# An edit costs more than half a minute of one core, so the gate has one of each crate that has any: a loop's turn (how many infos follow), a write to
-# the lent table, and what a callee is given. All of them are run by hand: python3 tools/lent/edits.py
-# Needs python3; without it the test is skipped (status 77), since the kit alone does not bring it.
-set -eu
-cd "$(dirname "$0")/.."
-command -v python3 >/dev/null 2>&1 || { echo "no python3 here"; exit 77; }
-named="datasample_access/follow_from_0 datasample_cache/slots_swapped datasample_select/gathered_numbers_lost"
+# The seven edits of code that has the table lent. With the older kit such an edit needed a derivation made again (tools/lent), so they stood apart and
+# the gate ran three of them. Today `rt ci` tries all of them with the other must-fail edits; here is seen that each is there and that its text stands
+# once in its source, since an edit that does not fit counts for nothing.
+set -u
+cd "$(dirname "$0")/.." || exit 1
+. tests/room.bash
 
-# every crate with such edits has one here
-for folder in crates/*/lent-edits; do
-  crate=$(basename "$(dirname "$folder")")
-  case " $named" in *" $crate/"*) ;; *) echo "no edit of $crate is named in tests/lent.sh"; exit 1 ;; esac
-done
-# each in a copy of its own, as many at a time as there are processors
-# shellcheck disable=SC2086
-printf '%s\n' $named | xargs -P "$(nproc 2>/dev/null || echo 1)" -n 1 python3 tools/lent/edits.py
+count=0
+while read -r crate name; do
+  edit=crates/$crate/must-fail/$name.edit
+  count=$((count + 1))
+  [ -f "$edit" ] || { wrong "there is no $edit"; continue; }
+  file=$(sed -n 's/^file: //p' "$edit" | head -n 1)
+  old=$(sed -n 's/^old: //p' "$edit" | head -n 1)
+  n=$(grep -cF -- "$old" "crates/$crate/$file")
+  [ "$n" -eq 1 ] || wrong "$edit: its text stands $n times in $file"
+done <<END
+datasample_access follow_from_0
+datasample_access infos_after_the_marks
+datasample_access mark_lost
+datasample_access served_before_the_refusal
+datasample_access views_before_the_infos
+datasample_cache slots_swapped
+datasample_select gathered_numbers_lost
+END
+echo "$count edits of lent code, $bad wrong"
+[ "$count" -eq 7 ] && [ "$bad" -eq 0 ]
