@@ -18,7 +18,7 @@ while read -r crate name; do
 done <<END
 datasample_access follow_from_0
 datasample_access infos_after_the_marks
-datasample_access mark_lost
+datasample_access mark_lost_in_code
 datasample_access served_before_the_refusal
 datasample_access views_before_the_infos
 datasample_cache slots_swapped
