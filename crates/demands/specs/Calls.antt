@@ -1,15 +1,14 @@
 -- A call of each public function, with the function's own contract: `Learnt` is what a caller learns, as the checker made it of the source's `ensures`.
 -- So a changed contract is refused here, where it no longer says what `Meets` says of the call. `κs` are the lifetimes of a call's references, and a
 -- primed reference is one after the call.
-use Rattle.std.specs.Prelude.{◌≡◌, refl, Bool, true, false, cond, List, ℕ, ◌/◌, length, ℤ}
-use Rattle.std.proofs.Common.{sym, ap, subst}
-use Rattle.std.proofs.Math.Option.{some, none}
+use Rattle.std.specs.Prelude.{◌≡◌, true, false, List, ℕ, ◌/◌, length}
+use Rattle.std.proofs.Math.Option.{some}
 use contract.Lifetimes.{Lfts}
 use Rattle.std.specs.Borrow.{Bor, MutBor}
 use Rattle.sampleinfo.specs.declared.Sample.{Sample}
 use Rattle.readcondition.specs.declared.ReadCondition.{ReadCondition}
 use Rattle.model.specs.Model as M
-use Rattle.model.specs.Model.{Model, Call, SetUp, Step, within, keep_of, fresh, step, setting_up}
+use Rattle.model.specs.Model.{Call, SetUp}
 use Rattle.index.specs.declared.Cache.{Cache}
 use Rattle.lookup.specs.declared.Next.{Next}
 use Rattle.select.specs.Choice.{scope_of}
@@ -18,15 +17,13 @@ use Rattle.select.specs.declared.Within.{Within}
 use Rattle.select.specs.declared.Chosen.{Chosen}
 use Rattle.infos.specs.Words.{places_in}
 use Rattle.pairs.specs.Flat.{pairs_of, whole_pairs}
-use Rattle.memory.specs.Lies.{Lies, table-long}
 use Rattle.datasample_cache.specs.Came.{added_as}
-use Rattle.datasample_cache.specs.Others.{reply_as, next_as, set_up_of, SetsUp}
+use Rattle.datasample_cache.specs.Others.{reply_as, next_as}
 use Rattle.datasample_cache.specs.Adding.{arrival}
 use Rattle.datasample_cache.specs.declared.Reply.{Reply}
 use Rattle.datasample_cache.specs.declared.AddOutcome.{AddOutcome}
 use Rattle.datasample_cache.specs.declared.SetUpOutcome.{SetUpOutcome}
 use Rattle.datasample_access.specs.Listed as list
-use Rattle.datasample_access.specs.Listed.{listing}
 use Rattle.datasample_access.specs.declared.ListOutcome.{ListOutcome}
 use Rattle.datasample_cache.proofs.add.Reads as of-add
 use Rattle.datasample_cache.proofs.set_up.Reads as of-set-up
@@ -36,7 +33,7 @@ use Rattle.datasample_select.proofs.choose.Reads as of-choose
 use Rattle.datasample_select.proofs.choose_within.Reads as of-choose-within
 use Rattle.datasample_access.proofs.read_by_keys.Reads as of-read
 use Rattle.datasample_access.proofs.take_by_keys.Reads as of-take
-use Rattle.demands.specs.Meets.{Memory, Holds, Seen, Meets, Stays, said, shown}
+use Rattle.demands.specs.Meets.{Memory, Seen, Meets, said, shown}
 
 abbrev pub holding : Cache → List ℕ → List Sample → Memory
 holding h ws t = record { head = h; words = ws; table = t }
@@ -81,50 +78,3 @@ pub data OddCalled : Memory → Seen → Memory → Type 0 where
   take : (κs : Lfts 4) (h : Cache) (ws ws' : MutBor (List ℕ)) (t t' : MutBor (List Sample)) (keys : Bor (List ℕ)) (out out' : MutBor (List ℕ)) (r : ListOutcome)
       → whole_pairs keys.now ≡ false → of-take.Learnt κs (h, (ws, (t, (keys, (out, tt))))) r (h, (ws', (t', (keys, (out', tt)))))
       → OddCalled (holding h ws.now t.now) (shown r.answer out.now out'.now) (holding r.head ws'.now t'.now)
-
--- ---- each contract is what `Meets` says of its call
-
-by-set-up : (u : SetUp) (h : Cache) (r : SetUpOutcome) (ws after : List ℕ) (t then : List Sample) → SetsUp u h r ws after t then
-    → Meets (M.set_up u) (record { head = h; words = ws; table = t }) (said (reply_as r.answer)) (record { head = r.head; words = after; table = then })
-unfolding step setting_up
-by-set-up u h r ws after t then f m g l = go (within u) refl
-  where
-    made : Bool → Step
-    made b = cond b (record { answer = M.ok; then = fresh (keep_of u) u.instances }) (M.refuse m 2)
-
-    go : (b : Bool) → within u ≡ b → (reply_as r.answer ≡ (made b).answer) × Lies (made b).then r.head after then
-    go true w = let x = f.accepted (table-long m h ws t l) w in (ap reply_as x.0, x.1)
-    go false w = let x = f.out-of-bounds (table-long m h ws t l) w in (rw x.0, rw (x.0, x.1, x.2) l)
-
--- a list of whole pairs, and any other
-listing-whole : (m : Model) (b : Bool) (keys : List ℕ) (room : ℕ) (P : Step → Type 0) → whole_pairs keys ≡ true → P (listing m b keys room) → P (step m (M.read_or_take b (pairs_of keys) room))
-unfolding listing
-listing-whole m b keys room P w x = subst (λ (c : Bool). P (cond c (step m (M.read_or_take b (pairs_of keys) room)) (M.refuse m 1))) w x
-
-listing-odd : (m : Model) (b : Bool) (keys : List ℕ) (room : ℕ) (P : Step → Type 0) → whole_pairs keys ≡ false → P (listing m b keys room) → P (M.refuse m 1)
-unfolding listing
-listing-odd m b keys room P w x = subst (λ (c : Bool). P (cond c (step m (M.read_or_take b (pairs_of keys) room)) (M.refuse m 1))) w x
-
-pub called-meets : {c : Call} {x y : Memory} {a : Seen} → Called c x a y → Meets c x a y
-unfolding M.step
-called-meets (set-up h ws ws' t t' u r k) = by-set-up u h r ws.now ws'.now t.now t'.now k.told
-called-meets (add κs h ws ws' t t' n w q time kind x r f) = λ m g l. ((f.0 m g l).answer, (f.0 m g l).lies)
-called-meets (no-writers κs h ws ws' t n r f) = λ m g l. ((f m t g l).answer, (f m t g l).lies)
-called-meets (next-key κs h ws t n r f) = λ m g l. (sym (ap (λ (s : Step). s.answer) (f m t g l)), l)
-called-meets (choose κs h ws t w c out out' r f) = λ m g l. ((f.0 m g l).answer, l)
-called-meets (choose-within κs h ws t n c out out' r f) = λ m g l. ((f.0 m g l).answer, l)
-called-meets (read κs h ws ws' t t' keys out out' r w f) = λ m g l.
-    let x = listing-whole m false keys.now (places_in out.now) (λ s. list.Came s r ws'.now t'.now out.now out'.now) w (f.0 m g l) in (x.answer, x.lies)
-called-meets (take κs h ws ws' t t' keys out out' r w f) = λ m g l.
-    let x = listing-whole m true keys.now (places_in out.now) (λ s. list.Came s r ws'.now t'.now out.now out'.now) w (f.0 m g l) in (x.answer, x.lies)
-
-pub odd-stays : {x y : Memory} {a : Seen} → OddCalled x a y → Stays x a y
-odd-stays (read κs h ws ws' t t' keys out out' r w f) = λ m g l.
-    let x = listing-odd m false keys.now (places_in out.now) (λ s. list.Came s r ws'.now t'.now out.now out'.now) w (f.0 m g l) in (x.answer, x.lies)
-odd-stays (take κs h ws ws' t t' keys out out' r w f) = λ m g l.
-    let x = listing-odd m true keys.now (places_in out.now) (λ s. list.Came s r ws'.now t'.now out.now out'.now) w (f.0 m g l) in (x.answer, x.lies)
-
--- an accepted set-up makes a fresh cache, whatever lay in memory
-pub set-up-begins : (h : Cache) (ws ws' : MutBor (List ℕ)) (t t' : MutBor (List Sample)) (u : SetUp) (r : SetUpOutcome) → length t.now ≡ 256 → within u ≡ true → SetUpCall h ws t u r ws' t'
-    → Holds (fresh (keep_of u) u.instances) (holding r.head ws'.now t'.now)
-set-up-begins h ws ws' t t' u r long w k = (k.told.accepted long w).1

@@ -17,7 +17,7 @@ use Rattle.refine.specs.Good.{Good}
 use Rattle.refine.specs.GoodLaws.{good-step, good-run}
 use Rattle.memory.specs.Lies.{Lies}
 use Rattle.bounds.specs.Small.{SmallCall, SmallAnswer}
-use Rattle.bounds.specs.SmallLaws.{small-fresh, small-step, small-answer}
+use Rattle.bounds.proofs.SmallLaws.{small-fresh, small-step, small-answer}
 use Rattle.infos.specs.Words.{words_of_infos, infos_then, places_in}
 use Rattle.infos.specs.FlatLaws.{length-words}
 use Rattle.pairs.specs.Flat.{pairs_of, pair_words, whole_pairs}
