@@ -18,11 +18,11 @@ use Rattle.model.proofs.Counting.{window-live}
 use Rattle.model.specs.PairLaws.{split}
 use Rattle.readcondition.specs.Masks.{is_valid}
 use Rattle.refine.specs.Good.{Good, Bounded}
-use Rattle.refine.specs.GoodLaws.{good-accept}
+use Rattle.refine.proofs.GoodLaws.{good-accept}
 use Rattle.refine.specs.Entries.{live-append}
 use Rattle.refine.specs.Accepted.{every-find, every-put, every-old}
-use Rattle.refine.specs.Found.{every-over, every-keyed}
-use Rattle.refine.specs.Latest.{every-latest}
+use Rattle.refine.proofs.Found.{every-over, every-keyed}
+use Rattle.refine.proofs.Latest.{every-latest}
 use Rattle.infos.specs.RankLaws.{mag-rank}
 use Rattle.bounds.specs.Small.{Small, SmallIn, AllSmall, SmallCall, SmallInfo, SmallAnswer}
 

@@ -5,12 +5,12 @@ use Rattle.model.specs.Pairs.{Pair}
 use Rattle.model.specs.Model.{Model, fine}
 use Rattle.store.specs.Store.{Store, freed}
 use Rattle.refine.specs.Good.{Good}
-use Rattle.refine.specs.FitOf.{fit_of}
+use Rattle.refine.proofs.FitOf.{fit_of}
 use Rattle.refine.specs.Layout.{store_of}
-use Rattle.refine.specs.Touch.{touched_by, good-touched}
-use Rattle.refine.specs.Take.{store-taken}
-use Rattle.refine.specs.Named.{Known}
-use Rattle.refine.specs.Fold.{Fine, fine-first, fine-next, Names, names_of, known_of}
+use Rattle.refine.proofs.Touch.{touched_by, good-touched}
+use Rattle.refine.proofs.Take.{store-taken}
+use Rattle.refine.proofs.Named.{Known}
+use Rattle.refine.proofs.Fold.{Fine, fine-first, fine-next, Names, names_of, known_of}
 
 -- how many are 0: the slots in use
 unfoldable zeros : List ℕ → ℕ

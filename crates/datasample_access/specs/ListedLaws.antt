@@ -24,13 +24,13 @@ use Rattle.index.specs.Memory.{index_of, head_of, Tied}
 use Rattle.index.specs.MemoryLaws.{few32}
 use Rattle.index.specs.declared.Cache.{Cache}
 use Rattle.refine.specs.Good.{Good}
-use Rattle.refine.specs.FitOf.{fit_of}
+use Rattle.refine.proofs.FitOf.{fit_of}
 use Rattle.refine.specs.Layout.{inst_of, store_of, table_of}
-use Rattle.refine.specs.Found.{at-below}
-use Rattle.refine.specs.Named.{insts-of, Known}
-use Rattle.refine.specs.Fold.{and-true, Names, names_of, known_of}
-use Rattle.refine.specs.Viewed.{take-store, take-table, read-store, read_table}
-use Rattle.refine.specs.Infos.{infos-is, first-bad-is}
+use Rattle.refine.proofs.Found.{at-below}
+use Rattle.refine.proofs.Named.{insts-of, Known}
+use Rattle.refine.proofs.Fold.{and-true, Names, names_of, known_of}
+use Rattle.refine.proofs.Viewed.{take-store, take-table, read-store, read_table}
+use Rattle.refine.proofs.Infos.{infos-is, first-bad-is}
 use Rattle.refine.specs.Lists.{slots_named, freed_all, cleared_all, marked_all, seen_at, viewed_rows, slot_infos, infos_at}
 use Rattle.infos.specs.declared.Ranking.{Ranking}
 use Rattle.infos.specs.Words.{places_in, put_infos, infos_then, words_of_infos}

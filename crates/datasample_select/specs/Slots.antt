@@ -25,11 +25,11 @@ use Rattle.refine.specs.Layout.{inst_of, Entry, entry, entries_from, entries_of,
 use Rattle.refine.specs.Good.{Good}
 use Rattle.refine.specs.Tables.{lives_in}
 use Rattle.refine.specs.Entries.{lives-of, insts}
-use Rattle.refine.specs.FitOf.{nobody}
-use Rattle.refine.specs.Found.{every-under, every-look, entry-slots}
-use Rattle.refine.specs.Unique.{none-counted}
-use Rattle.refine.specs.Named.{free-at, key-at, owner_at, record-at, key-once}
-use Rattle.refine.specs.Choosing.{pick, in_turn, by_slot, turn-append, slot-order}
+use Rattle.refine.proofs.FitOf.{nobody}
+use Rattle.refine.proofs.Found.{every-under, every-look, entry-slots}
+use Rattle.refine.proofs.Unique.{none-counted}
+use Rattle.refine.proofs.Named.{free-at, key-at, owner_at, record-at, key-once}
+use Rattle.refine.proofs.Choosing.{pick, in_turn, by_slot, turn-append, slot-order}
 use Rattle.select.specs.Ordered.{insert_all}
 use Rattle.select.specs.OrderedLaws.{all-sorted}
 

@@ -12,7 +12,7 @@ use Rattle.rust_model.specs.Ground.{Ground}
 use Rattle.rust_model.specs.Equal as rust
 use Rattle.rust_model.proofs.Equal.{equal-to-the-rust}
 use Rattle.refine.specs.Good.{Good}
-use Rattle.refine.specs.GoodLaws.{good-step, good-run}
+use Rattle.refine.proofs.GoodLaws.{good-step, good-run}
 use Rattle.demands.specs.Meets.{Memory, Holds, Seen, Means}
 use Rattle.demands.specs.Calls.{holding}
 use Rattle.demands.proofs.Calls.{called-meets, odd-stays, set-up-begins}

@@ -8,7 +8,7 @@ use Rattle.index.specs.Memory.{Tied, shown, head_of, index_of}
 use Rattle.index.specs.Keeping.{same_head}
 use Rattle.index.specs.declared.Cache.{Cache}
 use Rattle.refine.specs.Good.{Good}
-use Rattle.refine.specs.FitOf.{fit_of}
+use Rattle.refine.proofs.FitOf.{fit_of}
 use Rattle.refine.specs.Layout.{store_of, table_of, sample_of, entries_of}
 use Rattle.refine.specs.Tables.{length-slots}
 

@@ -14,7 +14,7 @@ use Rattle.model.specs.Story.{run}
 use Rattle.lookup.specs.declared.Next.{Next}
 use Rattle.lookup.specs.declared.Next.TheVariants as next
 use Rattle.refine.specs.Good.{Good}
-use Rattle.refine.specs.GoodLaws.{good-step, good-run}
+use Rattle.refine.proofs.GoodLaws.{good-step, good-run}
 use Rattle.memory.specs.Lies.{Lies}
 use Rattle.bounds.specs.Small.{SmallCall, SmallAnswer}
 use Rattle.bounds.proofs.SmallLaws.{small-fresh, small-step, small-answer}

@@ -13,9 +13,9 @@ use Rattle.refine.specs.Layout.{Entry, entry, entries_of, look_up}
 use Rattle.refine.specs.Good.{Good}
 use Rattle.refine.specs.Tables.{bit_le, uses, uses-here, uses-append, look-here}
 use Rattle.refine.specs.Entries.{lives-of, before, behind, entries_at, insts, found_at}
-use Rattle.refine.specs.GoodLaws.{bit-one}
-use Rattle.refine.specs.FitOf.{nobody}
-use Rattle.refine.specs.Dying.{nobody-live}
+use Rattle.refine.proofs.GoodLaws.{bit-one}
+use Rattle.refine.proofs.FitOf.{nobody}
+use Rattle.refine.proofs.Dying.{nobody-live}
 
 -- ---- every
 

@@ -14,9 +14,9 @@ use Rattle.store.specs.Store.{slot_named, freed}
 use Rattle.refine.specs.Layout.{slot_or_none, store_of, table_of}
 use Rattle.refine.specs.Good.{Good}
 use Rattle.refine.specs.Entries.{found_name}
-use Rattle.refine.specs.Named.{slot-named, insts-of, Known, known}
-use Rattle.refine.specs.Touch.{touched_in, touched_by, touched_none, touched-more, good-touched, touch-own, touch-other}
-use Rattle.refine.specs.Take.{store-taken, table_taken, store-read, table-read}
+use Rattle.refine.proofs.Named.{slot-named, insts-of, Known, known}
+use Rattle.refine.proofs.Touch.{touched_in, touched_by, touched_none, touched-more, good-touched, touch-own, touch-other}
+use Rattle.refine.proofs.Take.{store-taken, table_taken, store-read, table-read}
 use Rattle.refine.specs.Lists.{slots_named, freed_all, cleared_all, marked_all}
 
 -- ---- another pair stays as it was

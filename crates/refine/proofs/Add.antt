@@ -29,8 +29,8 @@ use Rattle.refine.specs.Tables.{bit_le, lives_in, uses, uses-append, uses-here, 
 use Rattle.refine.specs.Entries.{map-append, lives-of, before, behind, among, entries-put, entries_at, insts, put_is, find-is, new_is, name-is, place-le}
 use Rattle.refine.specs.Counting.{roomy-all, short-of}
 use Rattle.refine.specs.Accepted.{key-new, pushable, roomy-short, slot-free}
-use Rattle.refine.specs.GoodLaws.{bit-one}
-use Rattle.refine.specs.Window.{out_of, stay_in, live-old, live-gone, live-held, out-cell, fresh_cells, push-cells, out-handle, handle_in, roomed, beforehand, afterwards, after-as, roomed-as, slots-out, slots-moved}
+use Rattle.refine.proofs.GoodLaws.{bit-one}
+use Rattle.refine.proofs.Window.{out_of, stay_in, live-old, live-gone, live-held, out-cell, fresh_cells, push-cells, out-handle, handle_in, roomed, beforehand, afterwards, after-as, roomed-as, slots-out, slots-moved}
 use Rattle.refine.specs.Answers.{wanted_of, out_slot, meta_after, record_for, said_of, step_of, evicted, answer_of}
 
 -- ---- the lowest free slot

@@ -14,7 +14,7 @@ use Rattle.model.proofs.Laws.{map-ext}
 use Rattle.model.specs.PairLaws.{split}
 use Rattle.store.specs.Store.{place_of}
 use Rattle.refine.specs.Good.{Good, Sized, Bounded, InOrder}
-use Rattle.refine.specs.GoodLaws.{rising-touch}
+use Rattle.refine.proofs.GoodLaws.{rising-touch}
 use Rattle.refine.specs.Entries.{insts}
 
 -- the places that the list names are touched, and no instance's record

@@ -17,11 +17,11 @@ use Rattle.refine.specs.Layout.{cell_of, cells_of, inst_of, Entry, entry, entrie
 use Rattle.refine.specs.Good.{Good, Rising, InOrder}
 use Rattle.refine.specs.Tables.{look_none}
 use Rattle.refine.specs.Entries.{insts, before, behind, entries_at}
-use Rattle.refine.specs.FitOf.{every-at, get-inst, nobody}
-use Rattle.refine.specs.Dying.{nobody-live}
-use Rattle.refine.specs.Unique.{places-below, places-from}
-use Rattle.refine.specs.Found.{every-left, every-right, every-under, every-over, every-look, look-slot, Placed, entry-slots, every-placed}
-use Rattle.refine.specs.Named.{free-at, key-at, owner_at, record-at, insts-of}
+use Rattle.refine.proofs.FitOf.{every-at, get-inst, nobody}
+use Rattle.refine.proofs.Dying.{nobody-live}
+use Rattle.refine.proofs.Unique.{places-below, places-from}
+use Rattle.refine.proofs.Found.{every-left, every-right, every-under, every-over, every-look, look-slot, Placed, entry-slots, every-placed}
+use Rattle.refine.proofs.Named.{free-at, key-at, owner_at, record-at, insts-of}
 
 -- ---- rising lists of the same samples are the same
 

@@ -13,7 +13,7 @@ use Rattle.store.specs.Store.{place_of, no_inst}
 use Rattle.refine.specs.Layout.{inst_of, entries_from, slots_of, sample_of, store_of, table_of}
 use Rattle.refine.specs.Tables.{lives_in}
 use Rattle.refine.specs.Entries.{lives-of, among, entries-put, entries_at, insts, put_is, found_at, found_name, unknown-at}
-use Rattle.refine.specs.FitOf.{get-inst, nobody}
+use Rattle.refine.proofs.FitOf.{get-inst, nobody}
 
 -- ---- an instance whose places stay
 

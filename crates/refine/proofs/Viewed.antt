@@ -21,12 +21,12 @@ use Rattle.store.specs.Store.{Inst, Store, place_of, no_inst, slot_named, with_m
 use Rattle.refine.specs.Layout.{inst_of, entries_from, slots_of, sample_of, store_of, table_of}
 use Rattle.refine.specs.Good.{Good}
 use Rattle.refine.specs.Entries.{insts, found_at, found_name}
-use Rattle.refine.specs.GoodLaws.{count-find}
-use Rattle.refine.specs.FitOf.{nobody}
-use Rattle.refine.specs.Named.{insts-of, Known, key-once}
-use Rattle.refine.specs.Touch.{touched_in, touched_by}
-use Rattle.refine.specs.Take.{keyed-absent}
-use Rattle.refine.specs.Fold.{and-true, names_of, known_of, store-taken-all, table-taken-all, store-read-all, table-read-all}
+use Rattle.refine.proofs.GoodLaws.{count-find}
+use Rattle.refine.proofs.FitOf.{nobody}
+use Rattle.refine.proofs.Named.{insts-of, Known, key-once}
+use Rattle.refine.proofs.Touch.{touched_in, touched_by}
+use Rattle.refine.proofs.Take.{keyed-absent}
+use Rattle.refine.proofs.Fold.{and-true, names_of, known_of, store-taken-all, table-taken-all, store-read-all, table-read-all}
 use Rattle.refine.specs.Lists.{slots_named, freed_all, cleared_all, marked_all, seen_at, viewed_rows}
 
 -- ---- the greatest total shown, pair by pair

@@ -26,12 +26,12 @@ use Rattle.refine.specs.Layout.{cell_of, cells_of, inst_of, Entry, entry, entrie
 use Rattle.refine.specs.Good.{Good}
 use Rattle.refine.specs.Tables.{bit_le, lives_in, uses, uses-here, slots-less, slots-swap}
 use Rattle.refine.specs.Entries.{map-append, found_name, lives-of, insts, entries-put}
-use Rattle.refine.specs.FitOf.{in-a-slot}
-use Rattle.refine.specs.Add.{keyed-here}
-use Rattle.refine.specs.Unique.{unique}
-use Rattle.refine.specs.Found.{Placed, at, front, rear, at-below, entries-here, here-placed, entry-slots, keyed-key}
-use Rattle.refine.specs.Named.{insts-of, inst-here, named-placed, key-once, lives-parts}
-use Rattle.refine.specs.Touch.{touched_in, touched_by, touch-own, touched-one}
+use Rattle.refine.proofs.FitOf.{in-a-slot}
+use Rattle.refine.proofs.Add.{keyed-here}
+use Rattle.refine.proofs.Unique.{unique}
+use Rattle.refine.proofs.Found.{Placed, at, front, rear, at-below, entries-here, here-placed, entry-slots, keyed-key}
+use Rattle.refine.proofs.Named.{insts-of, inst-here, named-placed, key-once, lives-parts}
+use Rattle.refine.proofs.Touch.{touched_in, touched_by, touch-own, touched-one}
 
 -- ---- among the places of the pair's instance
 

@@ -21,12 +21,12 @@ use Rattle.model.specs.PairLaws.{split}
 use Rattle.store.specs.Store.{Store, later_slot, greatest_from, latest_slot}
 use Rattle.refine.specs.Layout.{Entry, entries_of, look_up, slot_or_none, free_of, key_of, sample_of, newest_of, store_of, table_of}
 use Rattle.refine.specs.Good.{Good}
-use Rattle.refine.specs.GoodLaws.{all-reached}
+use Rattle.refine.proofs.GoodLaws.{all-reached}
 use Rattle.refine.specs.Tables.{length-slots}
 use Rattle.refine.specs.Entries.{lives-of}
-use Rattle.refine.specs.Add.{keyed-here}
-use Rattle.refine.specs.Found.{every-over, every-under, every-keyed, every-look, look-slot, keyed-key, Placed, every-placed}
-use Rattle.refine.specs.Named.{free-at, key-at, record-at, key-once}
+use Rattle.refine.proofs.Add.{keyed-here}
+use Rattle.refine.proofs.Found.{every-over, every-under, every-keyed, every-look, look-slot, keyed-key, Placed, every-placed}
+use Rattle.refine.proofs.Named.{free-at, key-at, record-at, key-once}
 
 -- ---- the latest of a list
 

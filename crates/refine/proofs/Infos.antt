@@ -11,9 +11,9 @@ use Rattle.model.specs.BadLaws.{all_live}
 use Rattle.store.specs.Store.{place_of, inst_at, slot_named, is_held}
 use Rattle.refine.specs.Layout.{inst_of, store_of, table_of}
 use Rattle.refine.specs.Good.{Good}
-use Rattle.refine.specs.Named.{insts-of, inst-here, live-is}
-use Rattle.refine.specs.Latest.{latest-total}
-use Rattle.refine.specs.Fold.{and-true, Names, names_of, known_of}
+use Rattle.refine.proofs.Named.{insts-of, inst-here, live-is}
+use Rattle.refine.proofs.Latest.{latest-total}
+use Rattle.refine.proofs.Fold.{and-true, Names, names_of, known_of}
 use Rattle.refine.specs.Lists.{slots_named, owner_at, last_owned, slot_infos, infos_at, ranks_on}
 
 module _ (m : Model) (g : Good m) where

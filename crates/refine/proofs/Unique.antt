@@ -13,7 +13,7 @@ use Rattle.model.specs.Model.{Instance, Live, live_in, count, keyed}
 use Rattle.model.specs.Demand3.{has_key}
 use Rattle.model.specs.PairLaws.{split}
 use Rattle.refine.specs.Layout.{entry, entries_from}
-use Rattle.refine.specs.Found.{every-over, every-all}
+use Rattle.refine.proofs.Found.{every-over, every-all}
 
 module _ (k : ℕ) where
   pub keyed-skip : (a b : List Live) → count (has_key k) a ≡ 0 → keyed k (a ++ b) ≡ keyed k b

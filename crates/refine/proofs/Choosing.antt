@@ -16,9 +16,9 @@ use Rattle.model.specs.Demand3.{has_key}
 use Rattle.model.specs.PairLaws.{split}
 use Rattle.refine.specs.Layout.{Entry, look_up}
 use Rattle.refine.specs.Tables.{lives_in, uses, look_none, look-here}
-use Rattle.refine.specs.GoodLaws.{bit-one}
-use Rattle.refine.specs.Unique.{none-counted}
-use Rattle.refine.specs.Found.{every-left, every-under, every-look}
+use Rattle.refine.proofs.GoodLaws.{bit-one}
+use Rattle.refine.proofs.Unique.{none-counted}
+use Rattle.refine.proofs.Found.{every-left, every-under, every-look}
 
 module _ (test : Entry → Bool) (hit : Entry → Hit) where
   abbrev pub pick : Option Entry → List Hit

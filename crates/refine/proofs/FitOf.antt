@@ -13,7 +13,7 @@ use Rattle.model.specs.Model.{Model, Instance, Live, lives, count, in_slot, keye
 use Rattle.refine.specs.Layout.{cell_of, cells_of, inst_of, entries_from, store_of, newest_of, slot_or_none, free_of, key_of, owner_of}
 use Rattle.refine.specs.Good.{Good, Sized, Bounded}
 use Rattle.refine.specs.Tables.{length-slots}
-use Rattle.refine.specs.GoodLaws.{bit-one}
+use Rattle.refine.proofs.GoodLaws.{bit-one}
 
 pub every-at : (P : Instance → Type 0) (is : List Instance) (i : ℕ) (d : Instance) → Every P is → i < length is → P (get_or is i d)
 unfolding Every

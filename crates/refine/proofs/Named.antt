@@ -19,9 +19,9 @@ use Rattle.refine.specs.Layout.{cell_of, inst_of, Entry, entry, entries_of, look
 use Rattle.refine.specs.Good.{Good}
 use Rattle.refine.specs.Tables.{bit_le, lives_in, slot_at}
 use Rattle.refine.specs.Entries.{lives-of, lives-entry, map-append, insts, unknown-at}
-use Rattle.refine.specs.FitOf.{get-inst, nobody}
-use Rattle.refine.specs.Unique.{keyed-skip, keyed-first, keyed-counted, unkeyed, unique, places-below, places-from}
-use Rattle.refine.specs.Found.{every-over, every-under, every-look, look-slot, every-keyed, keyed-key, Placed, at, front, rear, at-below, at-is, entries-here, here-placed}
+use Rattle.refine.proofs.FitOf.{get-inst, nobody}
+use Rattle.refine.proofs.Unique.{keyed-skip, keyed-first, keyed-counted, unkeyed, unique, places-below, places-from}
+use Rattle.refine.proofs.Found.{every-over, every-under, every-look, look-slot, every-keyed, keyed-key, Placed, at, front, rear, at-below, at-is, entries-here, here-placed}
 
 -- ---- under a keep count: among the instance's cells
 

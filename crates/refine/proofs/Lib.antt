@@ -1,0 +1,16 @@
+pub mod GoodLaws
+pub mod FitOf
+pub mod Window
+pub mod Add
+pub mod Dying
+pub mod Found
+pub mod Unique
+pub mod Named
+pub mod Latest
+pub mod Touch
+pub mod Take
+pub mod Fold
+pub mod Viewed
+pub mod Choosing
+pub mod Infos
+pub mod OneContent
