@@ -1,15 +1,14 @@
 -- Reading and taking a list, as the code meets it.
-use Rattle.std.specs.Prelude.{◌≡◌, Bool, not, cond, List, [], ◌∷◌, ◌++◌, set, take, drop, eqb}
+use Rattle.std.specs.Prelude.{◌≡◌, Bool, cond, List, [], ◌∷◌, ◌++◌, set, take, drop, eqb}
 use Rattle.std.proofs.Math.Path.{refl, sym, ap}
-use Rattle.std.proofs.Common.{◌∙◌, true≢false, le_of_suc-le-suc, not-suc-le-zero}
+use Rattle.std.proofs.Common.{◌∙◌, le_of_suc-le-suc, not-suc-le-zero}
 use Rattle.std.proofs.Math.Bool.{true, false}
 use Prim.Native.Nat.{ℕ, zero, suc, ◌+◌, ◌-◌, ◌*◌, ◌/◌, ◌≤◌, ◌<◌, min}
 use Rattle.std.proofs.Math.Nat.{sub-zero}
 use Rattle.std.proofs.Math.Numerals.{add-one}
 use native.Mathlib.Omega.{arith}
-use borrow.Author.Tests.{lt-ltb, le-ltb, ne_eqb, not-true, not-false}
+use borrow.Author.Tests.{lt-ltb, le-ltb, ne_eqb}
 use Rattle.std.proofs.Math.ListN.{length, get_or, length-map}
-use Rattle.std.proofs.Math.Dec.{ltb}
 use Rattle.sampleinfo.specs.Counts as counts
 use Rattle.sampleinfo.specs.Counts.{accessed_at}
 use Rattle.sampleinfo.specs.Samples.{total_of}
@@ -17,16 +16,16 @@ use Rattle.sampleinfo.specs.declared.NotAliveGenerationCounts.{NotAliveGeneratio
 use Rattle.sampleinfo.specs.declared.InstanceMetaData.{InstanceMetaData}
 use Rattle.sampleinfo.specs.declared.Sample.{Sample}
 use Rattle.sampleinfo.specs.declared.Info.{Info}
-use Rattle.model.specs.Pairs.{Pair, first_bad}
+use Rattle.model.specs.Pairs.{Pair}
 use Rattle.sampleinfo.specs.declared.Ranks.{Ranks}
-use Rattle.pairs.specs.Flat.{pairs_of, pair_at, whole_pairs}
+use Rattle.pairs.specs.Flat.{pairs_of, pair_at}
 use Rattle.pairs.specs.FlatLaws.{length_pairs, no_pair, pair-at}
-use Rattle.pairs.specs.Repeat.{first_repeat, first_dead, bad_by}
-use Rattle.pairs.specs.BadLaws.{dead-here, dead-on, dead-past, bad-by}
+use Rattle.pairs.specs.Repeat.{first_dead, bad_by}
+use Rattle.pairs.specs.BadLaws.{dead-here, dead-on, dead-past}
 use Rattle.store.specs.Store.{Store, slot_named, is_held, accessed_in}
 use Rattle.store.specs.Fit.{Fit}
 use Rattle.index.specs.Words.{metas_in, owners_in, meta_at, put_meta_word}
-use Rattle.index.specs.Memory.{View, shown, head_of, Tied, Held}
+use Rattle.index.specs.Memory.{View, head_of, Tied, Held}
 use Rattle.index.specs.MemoryLaws.{few32, owners-are, accessed-store, held_of}
 use Rattle.index.specs.Keeping.{fit-accessed, head-with}
 use Rattle.index.specs.declared.Cache.{Cache}
@@ -35,9 +34,8 @@ use Rattle.change.specs.Keeping.{tied-kept, fit-freed-at}
 use Rattle.refine.specs.Lists.{slots_named, viewed_rows}
 use Rattle.infos.specs.Infos.{info_from}
 use Rattle.infos.specs.Words.{put_info}
-use Rattle.access.specs.declared.FirstBad.{FirstBad}
 use Rattle.access.specs.declared.FirstBad.TheVariants as code
-use Rattle.access.specs.Access.{slot_at, run, named_first, Found, bad_of, number_of, or_short, list_refusal, slots_after, Refuses, Judges, last_counts, noted, freed_each, viewed_word, viewed_by, settled}
+use Rattle.access.specs.Access.{slot_at, run, named_first, Found, bad_of, last_counts, noted, freed_each, viewed_word, viewed_by, settled}
 
 -- ---- the slots of a list
 
@@ -117,56 +115,6 @@ module _ (d r n : ℕ) where
 
   pub bad-none : d ≤ r → n ≤ d → bad_of code.Nowhere ≡ bad_by d r n
   bad-none k l = rw (le-ltb r d k, le-ltb d n l)
-
--- ---- the refusals
-
-module _ (h : Cache) (ws list slots : List ℕ) (room : ℕ) where
-  pub refuse-odd : (w : Bool) → w ≡ whole_pairs list → not w ≡ true → Judges h ws list room 1 slots slots
-  unfolding list_refusal slots_after
-  refuse-odd w e n = record { tied = λ s long t. record { number = rw (sym e ∙ not-true w n); names = rw (sym e ∙ not-true w n) }; odd = λ z. refl }
-
-  module _ (w : Bool) (e : w ≡ whole_pairs list) (n : not w ≡ false) where
-    whole : whole_pairs list ≡ true
-    whole = sym e ∙ not-false w n
-
-    -- the list is of whole pairs
-    judged : (r : ℕ) (after : List ℕ) → ((s : Store) → length slots ≡ 256 → Tied s h ws → Refuses s list room r slots after) → Judges h ws list room r slots after
-    judged r after f = record { tied = f; odd = λ z. absurd (true≢false (sym whole ∙ z)) }
-
-    pub refuse-many : 256 < length list / 2 → Judges h ws list room 8 slots slots
-    unfolding list_refusal slots_after
-    refuse-many l = judged 8 slots (λ s long t.
-        let b : ltb 256 (length (pairs_of list)) ≡ true = lt-ltb 256 (length (pairs_of list)) (omega (arith, length_pairs list)) in
-        record { number = rw (whole, b); names = rw (whole, b) })
-
-    module _ (few : length list / 2 ≤ 256) (d : ℕ) (after : List ℕ) (f : (z : Store) → length slots ≡ 256 → Tied z h ws → Found z (pairs_of list) d slots after)
-        (r : ℕ) (g : r ≡ first_repeat (pairs_of list)) (x : FirstBad) (o : bad_of x ≡ bad_by d r (length list / 2)) (k : ℕ) (q : k ≡ number_of (bad_of x)) where
-      first-is : (s : Store) → length slots ≡ 256 → Tied s h ws → bad_of x ≡ first_bad (is_held s) (pairs_of list)
-      first-is s long t = o ∙ rw ((f s long t).place, g, ← (length_pairs list)) (sym (bad-by (is_held s) (pairs_of list)))
-
-      -- what is refused for no bad pair is refused with 9
-      by_number : (y : ℕ) → y ≡ or_short k room (length (pairs_of list)) → Judges h ws list room y slots after
-      unfolding list_refusal slots_after
-      by_number y e = judged y after (λ s long t.
-          let fits : ltb 256 (length (pairs_of list)) ≡ false = le-ltb 256 (length (pairs_of list)) (omega (arith, length_pairs list)) in
-          record {
-            number = e ∙ rw (whole, fits) (ap (λ (j : ℕ). or_short j room (length (pairs_of list))) (q ∙ ap number_of (first-is s long t)));
-            names = (f s long t).names ∙ rw (whole, fits);
-          })
-
-      pub refuse-bad : (k ≡ 0 → ⊥) → Judges h ws list room k slots after
-      refuse-bad z = by_number k (go k z)
-        where
-          go : (y : ℕ) → (y ≡ 0 → ⊥) → y ≡ or_short y room (length (pairs_of list))
-          go zero z = absurd (z refl)
-          go (suc y) z = refl
-
-      module _ (z : k ≡ 0) where
-        pub refuse-short : room < length list / 2 → Judges h ws list room 9 slots after
-        refuse-short l = by_number 9 (rw (z, lt-ltb room (length (pairs_of list)) (omega (arith, length_pairs list))))
-
-        pub refuse-none : length list / 2 ≤ room → Judges h ws list room 0 slots after
-        refuse-none l = by_number 0 (rw (z, le-ltb room (length (pairs_of list)) (omega (arith, length_pairs list))))
 
 -- ---- what is shown
 

@@ -1,12 +1,11 @@
 -- What is chosen of a slot, as the code meets it.
-use Rattle.std.specs.Prelude.{◌≡◌, refl, Bool, not, ◌&&◌, cond, List, [], ◌∷◌, ◌++◌, ℕ, zero, suc, ◌+◌, ◌-◌, ◌*◌, ◌<◌, ◌≤◌, eqb, get_or}
-use Rattle.std.proofs.Common.{sym, ◌∙◌, length-append}
+use Rattle.std.specs.Prelude.{◌≡◌, Bool, not, List, [], ℕ, ◌+◌, ◌-◌, ◌*◌, ◌<◌, ◌≤◌, eqb, get_or}
+use Rattle.std.proofs.Common.{◌∙◌}
 use Rattle.std.proofs.Math.Path.{ap}
-use Rattle.std.proofs.Math.Bool.{true, false, and-false}
-use Rattle.std.proofs.Math.Option.{Option, some, none}
+use Rattle.std.proofs.Math.Bool.{true, false}
+use Rattle.std.proofs.Math.Option.{Option}
 use native.Mathlib.Omega.{arith}
-use borrow.Author.Tests.{eq-eqb, ne_eqb, lt-ltb, le-ltb, not-true, not-false}
-use Rattle.std.proofs.Math.ListN.{length}
+use borrow.Author.Tests.{ne_eqb, lt-ltb, le-ltb, not-true, not-false}
 use Rattle.sampleinfo.specs.Lifecycle.{state_of, accessed_of}
 use Rattle.sampleinfo.specs.declared.SampleState.{SampleState}
 use Rattle.sampleinfo.specs.declared.SampleState.TheVariants.{Read, NotRead}
@@ -16,14 +15,12 @@ use Rattle.sampleinfo.specs.declared.InstanceMetaData.{InstanceMetaData}
 use Rattle.slots.specs.Bits.{free_at}
 use Rattle.readcondition.specs.Masks.{chosen_by}
 use Rattle.readcondition.specs.declared.ReadCondition.{ReadCondition}
-use Rattle.model.specs.Pairs.{Hit}
 use Rattle.model.specs.Views.{view_of}
 use Rattle.store.specs.Choosing.{in_scope}
-use Rattle.index.specs.Words.{names_in, metas_in, keys_in, owners_in, meta_at}
-use Rattle.pairs.specs.Flat.{hit_at}
+use Rattle.index.specs.Words.{names_in, metas_in, owners_in, meta_at}
 use Rattle.select.specs.declared.Within.{Within}
 use Rattle.select.specs.declared.Within.TheVariants as within
-use Rattle.select.specs.Choice.{state_for, scope_of, chosen_on, hit_on, hits_on}
+use Rattle.select.specs.Choice.{state_for, scope_of, chosen_on, hit_on}
 
 -- ---- the three states and the scope
 
@@ -73,21 +70,3 @@ module _ (free ws seen : List ℕ) (c : ReadCondition) (w : Option ℕ) (k : ℕ
   pub hit-none : false ≡ chosen_on free ws seen c w k → hit_on free ws seen c w k ≡ []
   unfolding hit_on
   hit-none e = rw (← e)
-
-  pub hit-one : true ≡ chosen_on free ws seen c w k → hit_on free ws seen c w k ≡ hit_at (get_or seen (3 * k) 0) (get_or (keys_in ws) k 0) (get_or (names_in ws) (get_or (owners_in ws) k 0) 0) ∷ []
-  unfolding hit_on
-  hit-one e = rw (← e)
-
-  pub hit_few : length (hit_on free ws seen c w k) ≤ 1
-  unfolding hit_on
-  hit_few = go (chosen_on free ws seen c w k)
-    where
-      go : (b : Bool) → length (cond b (hit_at (get_or seen (3 * k) 0) (get_or (keys_in ws) k 0) (get_or (names_in ws) (get_or (owners_in ws) k 0) 0) ∷ []) []) ≤ 1
-      go true = omega arith
-      go false = omega arith
-
-pub hits_few : (n k : ℕ) (free ws seen : List ℕ) (c : ReadCondition) (w : Option ℕ) → length (hits_on n k free ws seen c w) ≤ n
-unfolding hits_on
-hits_few zero k free ws seen c w = omega arith
-hits_few (suc n) k free ws seen c w =
-    rw length-append (omega (arith, hit_few free ws seen c w k, hits_few n (k + 1) free ws seen c w))

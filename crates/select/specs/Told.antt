@@ -1,6 +1,5 @@
 -- What a choice answers, and what it writes into the lent buffer.
 use Rattle.std.specs.Prelude.{◌≡◌, cond, List, [], ◌++◌, ℕ, ◌*◌, leb, length, take, drop}
-use Rattle.std.proofs.Math.Option.{Option}
 use Rattle.readcondition.specs.Masks.{is_valid}
 use Rattle.readcondition.specs.declared.ReadCondition.{ReadCondition}
 use Rattle.model.specs.Pairs.{Pair, Hit, pairs_in}

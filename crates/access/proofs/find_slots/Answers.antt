@@ -1,6 +1,5 @@
 -- The slots of the pairs passed stand in their places.
 use Rattle.std.proofs.Common.{rules}
-use Prim.Native.Nat.{◌-◌}
 use Rattle.access.specs.AccessLaws.{finds-start, finds-on, finds-dead, finds-end}
 use Rattle.access.proofs.find_slots.Goals as goal
 

@@ -1,6 +1,5 @@
 -- The slots passed are free.
 use Rattle.std.proofs.Common.{rules}
-use Prim.Native.Nat.{◌-◌}
 use Rattle.access.specs.AccessLaws.{frees-start, frees-on, frees-end}
 use Rattle.access.proofs.free_all.Goals as goal
 

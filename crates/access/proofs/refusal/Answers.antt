@@ -1,6 +1,6 @@
 -- One law for each refusal.
 use Rattle.std.proofs.Common.{rules}
-use Rattle.access.specs.AccessLaws.{refuse-odd, refuse-many, refuse-bad, refuse-short, refuse-none}
+use Rattle.access.proofs.RefusalLaws.{refuse-odd, refuse-many, refuse-bad, refuse-short, refuse-none}
 use Rattle.access.proofs.refusal.Goals as goal
 
 pub returns-then-not-whole : goal.returns-then-not-whole

@@ -1,6 +1,5 @@
 -- The rows passed have what was seen.
 use Rattle.std.proofs.Common.{rules}
-use Prim.Native.Nat.{◌-◌}
 use Rattle.access.specs.AccessLaws.{views-start, views-on, views-end}
 use Rattle.access.proofs.view_rows.Goals as goal
 
