@@ -1,5 +1,4 @@
 pub mod Listed
 pub mod SlotLaws
 pub mod FewLaws
-pub mod ListedLaws
 pub mod OneOutcome

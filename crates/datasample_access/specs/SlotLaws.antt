@@ -113,16 +113,6 @@ module _ (slots : List ℕ) (take : Bool) where
   pub touch-start : (n : ℕ) (t : List Sample) → touched_all t take (run (n - 0) 0 slots) ≡ touched_all t take (run n 0 slots)
   touch-start n t = ap (λ (k : ℕ). touched_all t take (run k 0 slots)) (sub-zero n)
 
-  touched-next : (m p : ℕ) (t : List Sample) → touched_all t take (run (suc m) p slots) ≡ touched_all (touched t (slot_at slots p) take) take (run m (p + 1) slots)
-  unfolding run touched_all
-  touched-next m p t = refl
-
-  pub touch-turn : (n p slot : ℕ) (t u all : List Sample) → touched_all t take (run (n - p) p slots) ≡ all → p < n → slot ≡ slot_at slots p → u ≡ touched t slot take
-      → touched_all u take (run (n - (p + 1)) (p + 1) slots) ≡ all
-  touch-turn n p slot t u all inv h e q =
-      let one : n - p ≡ suc (n - (p + 1)) = omega arith in
-      rw (q, e) (sym (ap (λ (m : ℕ). touched_all t take (run m p slots)) one ∙ touched-next (n - (p + 1)) p t) ∙ inv)
-
   pub touch-end : (n p : ℕ) (t all : List Sample) → touched_all t take (run (n - p) p slots) ≡ all → n ≤ p → t ≡ all
   unfolding run touched_all
   touch-end n p t all inv h = let none : n - p ≡ 0 = omega arith in sym (ap (λ (m : ℕ). touched_all t take (run m p slots)) none) ∙ inv

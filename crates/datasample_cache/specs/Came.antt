@@ -1,5 +1,5 @@
 -- What an add answers and leaves, against the model's step.
-use Rattle.std.specs.Prelude.{◌≡◌, true, false, cond, List, ℕ, ltb, eqb, length}
+use Rattle.std.specs.Prelude.{◌≡◌, false, cond, List, ℕ, ltb, eqb, length}
 use Rattle.std.proofs.Math.Option.{Option, some, none}
 use Rattle.sampleinfo.specs.States.{handle_of}
 use Rattle.sampleinfo.specs.declared.Sample.{Sample}

@@ -1,5 +1,5 @@
 -- Set-up and the no-writers event, as the code meets them.
-use Rattle.std.specs.Prelude.{◌≡◌, Bool, true, false, not, ◌&&◌, ◌||◌, cond, List, [], ℕ, ◌*◌, ◌≤◌, ◌<◌, ◌^◌, T, leb, ltb, eqb, ℤ, pos, negsuc, nat_abs, length}
+use Rattle.std.specs.Prelude.{◌≡◌, Bool, true, false, not, ◌&&◌, ◌||◌, cond, List, ℕ, ◌*◌, ◌≤◌, ◌<◌, ◌^◌, T, leb, ltb, eqb, ℤ, pos, negsuc, nat_abs, length}
 use Rattle.std.proofs.Math.Path.{refl, ap}
 use Rattle.std.proofs.Common.{sym, ◌∙◌, true≢false, mul-le-mul_left, mul-le-mul_right, not-suc-le-zero, arith, Fits, SFits, to_z, of_z, to_z-of_z}
 use Rattle.std.proofs.Math.Bool.{and-false, or-false}
@@ -8,7 +8,6 @@ use borrow.Author.Tests.{not-true, not-false, le-leb, lt-leb, eq-eqb, ne_eqb, lt
 use Rattle.std.specs.Int.Signed.{lt_z, non_neg}
 use Rattle.std.specs.Int.{w32, w64}
 use Rattle.sampleinfo.specs.declared.Sample.{Sample}
-use Rattle.keys.specs.declared.Last.TheVariants as last
 use Rattle.model.specs.Model as M
 use Rattle.model.specs.Model.{Model, SetUp, counts_kept, counts_none, within, keep_of, depth_of, keep_fits, is_zero, fresh, step, lives, find, dying, refuse}
 use Rattle.store.specs.Store as S
@@ -18,18 +17,17 @@ use Rattle.index.specs.Memory.{Held, View, fresh_store, head_of, index_of}
 use Rattle.index.specs.declared.Cache.{Cache}
 use Rattle.change.specs.Change.{Left, Kept}
 use Rattle.refine.specs.Good.{Good}
-use Rattle.refine.specs.Layout.{store_of, table_of, slots_of, tab_from, look_up, entries_from, free_of, key_of, owner_of, sample_of}
-use Rattle.refine.proofs.Dying.{code_of, dying-is, table-dying, next-is}
+use Rattle.refine.specs.Layout.{store_of, table_of, slots_of, tab_from, look_up, entries_from}
+use Rattle.refine.specs.Dying.{code_of, dying-is, table-dying, next-is}
 use Rattle.memory.specs.Lies.{Lies, tied}
 use Rattle.samples.specs.Table.{empty_table}
-use Rattle.lists.specs.Blocks.{put_at, length-put-in}
+use Rattle.lists.specs.Blocks.{length-put-in}
 use Rattle.sampleinfo.specs.Lifecycle.{no_writers_of}
 use Rattle.lookup.specs.Lookup.{next_of}
 use Rattle.lookup.specs.declared.Next.{Next}
-use Rattle.datasample_cache.specs.declared.Reply.{Reply}
 use Rattle.datasample_cache.specs.declared.Reply.TheVariants as reply
 use Rattle.datasample_cache.specs.declared.SetUpOutcome.{SetUpOutcome}
-use Rattle.datasample_cache.specs.Others.{reply_as, next_as, set_up_of, depth_for, kept_in, within_by, not_set_up, Begun, SetsUp, Dies}
+use Rattle.datasample_cache.specs.Others.{next_as, set_up_of, depth_for, kept_in, within_by, not_set_up, Begun, SetsUp, Dies}
 
 -- ---- the fresh cache in memory
 

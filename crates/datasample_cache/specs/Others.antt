@@ -1,6 +1,6 @@
 -- What a set-up, a no-writers event and a question for the next key answer and leave, against the model's step.
-use Rattle.std.specs.Prelude.{◌≡◌, Bool, true, false, ◌&&◌, ◌||◌, cond, List, ℕ, ◌*◌, leb, ltb, eqb, ℤ, pos, negsuc, length}
-use Rattle.std.proofs.Math.Option.{Option, some, none}
+use Rattle.std.specs.Prelude.{◌≡◌, Bool, true, false, ◌&&◌, ◌||◌, cond, List, ℕ, ◌*◌, leb, eqb, ℤ, pos, negsuc, length}
+use Rattle.std.proofs.Math.Option.{some, none}
 use Rattle.sampleinfo.specs.declared.Sample.{Sample}
 use Rattle.model.specs.Model.{Answer, refused, ok, next, Step, SetUp, counts_kept, counts_none, within, keep_of, fresh}
 use Rattle.store.specs.Store.{Store}

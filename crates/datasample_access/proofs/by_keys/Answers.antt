@@ -1,6 +1,6 @@
 use Rattle.std.proofs.Common.{rules}
 use mathlib.Core.Path.{refl}
-use Rattle.datasample_access.specs.ListedLaws.{came-no-table, came-declined, came-listed, odd-declined, odd-not-served}
+use Rattle.datasample_access.proofs.ListedLaws.{came-no-table, came-declined, came-listed, odd-declined, odd-not-served}
 use Rattle.datasample_access.proofs.by_keys.Goals as goal
 
 pub returns-then-t-ne256 : goal.returns-then-t-ne256

@@ -1,5 +1,4 @@
 use Rattle.std.proofs.Common.{rules}
-use Prim.Native.Nat.{◌-◌}
 use Rattle.datasample_access.specs.SlotLaws.{put-start, put-turn, put-end, put-long, note-start, note-turn, note-end}
 use Rattle.datasample_access.proofs.collect.Goals as goal
 

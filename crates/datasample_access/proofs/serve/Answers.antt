@@ -1,5 +1,5 @@
 use mathlib.Core.Path.{refl}
-use Rattle.datasample_access.specs.ListedLaws.{serve-done}
+use Rattle.datasample_access.proofs.ListedLaws.{serve-done}
 use Rattle.datasample_access.proofs.serve.Goals as goal
 
 pub returns : goal.returns

@@ -1,6 +1,6 @@
 use Rattle.std.proofs.Common.{rules}
-use Prim.Native.Nat.{◌-◌}
-use Rattle.datasample_access.specs.SlotLaws.{touch-start, touch-turn, touch-end, touch-long}
+use Rattle.datasample_access.specs.SlotLaws.{touch-start, touch-end, touch-long}
+use Rattle.datasample_access.proofs.TouchLaws.{touch-turn}
 use Rattle.datasample_access.proofs.touch_all.Goals as goal
 
 pub loop-p-init : goal.loop-p-init

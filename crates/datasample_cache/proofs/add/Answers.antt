@@ -1,5 +1,5 @@
 use Rattle.std.proofs.Common.{rules}
-use Rattle.datasample_cache.specs.CameLaws.{came-add, came-no-table, unfit-left}
+use Rattle.datasample_cache.proofs.CameLaws.{came-add, came-no-table, unfit-left}
 use Rattle.datasample_cache.proofs.add.Goals as goal
 
 pub returns-then-t-ne256 : goal.returns-then-t-ne256

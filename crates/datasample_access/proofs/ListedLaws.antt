@@ -1,5 +1,5 @@
 -- Reading and taking a list in the code is the model's: the last step of the proof.
-use Rattle.std.specs.Prelude.{◌≡◌, refl, Bool, true, false, ℕ, suc, ◌+◌, ◌*◌, ◌/◌, ◌≤◌, ◌<◌, length, get_or, drop, replicate, ltb, leb}
+use Rattle.std.specs.Prelude.{◌≡◌, refl, Bool, true, false, ℕ, suc, ◌*◌, ◌/◌, ◌≤◌, ◌<◌, length, get_or, drop, replicate, ltb, leb}
 use Rattle.std.proofs.Common.{sym, ap, ◌∙◌, arith, ltb-true, ltb-false, le-leb}
 use Rattle.std.proofs.Math.Option.{Option, some, none}
 use mathlib.Core.List.{List, [], ◌∷◌, ◌++◌}
@@ -11,7 +11,6 @@ use Rattle.lists.specs.Every.{Every}
 use Rattle.sampleinfo.specs.declared.NotAliveGenerationCounts.{NotAliveGenerationCounts}
 use Rattle.sampleinfo.specs.declared.Sample.{Sample}
 use Rattle.model.specs.Pairs.{Pair, Bad, first_bad, none_bad}
-use Rattle.model.specs.Model as M
 use Rattle.model.specs.Model.{Model, is_live, fine, infos_for, access, accessing, step, refuse, Edition, by_the_rust}
 use Rattle.model.specs.BadLaws.{all_live}
 use Rattle.model.proofs.BadLaws.{fine-live}
