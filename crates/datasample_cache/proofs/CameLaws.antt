@@ -19,7 +19,7 @@ use Rattle.index.specs.declared.Cache.{Cache}
 use Rattle.refine.specs.Good.{Good}
 use Rattle.refine.specs.Layout.{store_of, table_of}
 use Rattle.refine.specs.Answers.{out_slot, meta_after, said_of, step_of, record_for, evicted, answer_of}
-use Rattle.refine.specs.Add.{adding-is, table_is, refused-same, answer-is}
+use Rattle.refine.proofs.Add.{adding-is, table_is, refused-same, answer-is}
 use Rattle.samples.specs.Table.{peek_at, swapped}
 use Rattle.memory.specs.Lies.{Lies, tied, table-long}
 use Rattle.datasample_cache.specs.declared.Decision.{Decision}

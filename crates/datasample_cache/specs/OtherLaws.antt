@@ -18,7 +18,7 @@ use Rattle.index.specs.declared.Cache.{Cache}
 use Rattle.change.specs.Change.{Left, Kept}
 use Rattle.refine.specs.Good.{Good}
 use Rattle.refine.specs.Layout.{store_of, table_of, slots_of, tab_from, look_up, entries_from}
-use Rattle.refine.specs.Dying.{code_of, dying-is, table-dying, next-is}
+use Rattle.refine.proofs.Dying.{code_of, dying-is, table-dying, next-is}
 use Rattle.memory.specs.Lies.{Lies, tied}
 use Rattle.samples.specs.Table.{empty_table}
 use Rattle.lists.specs.Blocks.{length-put-in}
