@@ -1,7 +1,7 @@
 -- Two outcomes that meet the contract of `respond` are equal: one possible printout, one possible session, index and table, and one possible content of
 -- each lent buffer. `Whole` of a header's free slots says that it has four words of 64 bits, as every value of that type has.
 use Rattle.std.specs.Prelude.{◌≡◌, List, ℕ}
-use Rattle.std.proofs.Common.{sym, ap, ◌∙◌}
+use Rattle.std.proofs.Common.{sym, ◌∙◌}
 use Rattle.std.proofs.Math.Option.{Option, some, none}
 use Rattle.sampleinfo.specs.declared.Sample.{Sample}
 use Rattle.slots.specs.FreeLaws.{Whole}

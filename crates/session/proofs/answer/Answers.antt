@@ -1,5 +1,5 @@
 use Rattle.std.proofs.Common.{rules}
-use Rattle.session.specs.TurnLaws.{turn-declined, turn-set-up, turn-add, turn-no-writers, turn-choose, turn-choose-within, turn-read, turn-take, turn-next-key, turn-malformed}
+use Rattle.session.proofs.TurnLaws.{turn-declined, turn-set-up, turn-add, turn-no-writers, turn-choose, turn-choose-within, turn-read, turn-take, turn-next-key, turn-malformed}
 use Rattle.session.proofs.answer.Goals as goal
 
 pub returns-then-n-ne0 : goal.returns-then-n-ne0

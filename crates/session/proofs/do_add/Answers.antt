@@ -1,4 +1,4 @@
-use Rattle.session.specs.CallLaws.{add-answers}
+use Rattle.session.proofs.CallLaws.{add-answers}
 use Rattle.session.proofs.do_add.Goals as goal
 
 pub returns : goal.returns

@@ -1,5 +1,5 @@
 use Rattle.std.proofs.Common.{rules}
-use Rattle.session.specs.CallLaws.{choose-answers}
+use Rattle.session.proofs.CallLaws.{choose-answers}
 use Rattle.session.proofs.do_choose.Goals as goal
 
 pub returns : goal.returns

@@ -1,5 +1,5 @@
 use Rattle.std.proofs.Common.{rules}
-use Rattle.session.specs.CallLaws.{front_long, front-there, list-answers}
+use Rattle.session.proofs.CallLaws.{front_long, front-there, list-answers}
 use Rattle.session.proofs.do_list.Goals as goal
 
 pub slice_bounds-list-end : goal.slice_bounds-list-end

@@ -1,5 +1,5 @@
 use Rattle.std.proofs.Common.{rules}
-use Rattle.session.specs.CallLaws.{next-answers}
+use Rattle.session.proofs.CallLaws.{next-answers}
 use Rattle.session.proofs.do_next_key.Goals as goal
 
 pub returns : goal.returns

@@ -1,5 +1,5 @@
 use Rattle.std.proofs.Common.{rules}
-use Rattle.session.specs.CallLaws.{no-writers-answers}
+use Rattle.session.proofs.CallLaws.{no-writers-answers}
 use Rattle.session.proofs.do_no_writers.Goals as goal
 
 pub returns : goal.returns

@@ -1,5 +1,5 @@
 use Rattle.std.proofs.Common.{rules}
-use Rattle.session.specs.CallLaws.{set-up-answers}
+use Rattle.session.proofs.CallLaws.{set-up-answers}
 use Rattle.session.proofs.do_set_up.Goals as goal
 
 pub returns : goal.returns
