@@ -1,7 +1,6 @@
 // The load of bench/SPEED-load.md over the proved cache. The set-up comes from standard input, so that no compiler can fold it in; the sums of what
 // the cache answered go to standard output.
-// Only `main` lends the sample table, and it decides nothing: a function over the table has a long machine-made derivation (tools/lent), one over the
-// driver's words has none.
+// Only `main` lends the sample table, and it decides nothing: what follows from an answer is decided by functions over the driver's words.
 #![tactic(auto)]
 
 ghost use Rattle.std.specs.Prelude.{◌≡◌, ◌<◌, ◌≤◌, length};

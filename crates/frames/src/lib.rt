@@ -20,7 +20,8 @@ pub struct Source<R> {
 
 impl<R> Source<R> {
     pub fn new(reader: R) -> Source<R>
-        ensures { result.reader ≡ reader }
+        ensures whose { result.reader ≡ reader }
+        ensures none_failed { is_ok result.last ≡ true }
     {
         Source {
             reader,

@@ -278,7 +278,7 @@ fn turns_after(turns: u64, go: bool) -> u64
     turns - 1
 }
 
-// Its only way out is the end of its loop: with three more its machine-made derivation was a third longer.
+// Its only way out is the end of its loop.
 fn main(rt: HostRuntime) {
     let streams = Streams {
         output: rt.stdout(),
