@@ -1,6 +1,11 @@
 -- Reading and taking a list, on the store and on the words.
-use Rattle.std.specs.Prelude.{◌≡◌, Bool, false, cond, List, [], ◌∷◌, ◌++◌, ℕ, zero, suc, ◌+◌, ◌-◌, ◌*◌, length, get_or, set, take, drop, ltb, eqb}
+use Rattle.std.specs.Prelude.{◌≡◌, Bool, false, cond, List, [], ◌∷◌, ◌++◌, ℕ, zero, suc, ◌+◌, ◌-◌, ◌*◌, length, get_or, set, take, drop, ltb, eqb, Some, None}
+use Rattle.std.specs.Prelude as rust
+use Rattle.std.specs.declared.result.Result.{Result}
+use Rattle.std.specs.declared.result.Result.TheVariants.{Err}
 use Rattle.std.proofs.Math.Option.{Option, some, none}
+use Rattle.refusals.specs.declared.Refusal.{Refusal}
+use Rattle.refusals.specs.declared.Refusal.TheVariants.{Malformed}
 use Rattle.sampleinfo.specs.Counts as counts
 use Rattle.sampleinfo.specs.Counts.{accessed_at}
 use Rattle.sampleinfo.specs.Lifecycle.{counts_of}
@@ -10,16 +15,16 @@ use Rattle.sampleinfo.specs.declared.Sample.{Sample}
 use Rattle.sampleinfo.specs.declared.Info.{Info}
 use Rattle.model.specs.Pairs.{Pair, Bad, not_live, twice, bad_from, first_bad}
 use Rattle.pairs.specs.Flat.{pairs_of, whole_pairs}
-use Rattle.pairs.specs.Repeat.{first_dead}
+use Rattle.pairs.specs.Repeat.{first_dead, place_in}
 use Rattle.store.specs.Store.{Store, is_held}
 use Rattle.index.specs.Words.{metas_in, owners_in, meta_at, put_meta_word}
 use Rattle.index.specs.Memory.{Tied}
 use Rattle.index.specs.declared.Cache.{Cache}
-use Rattle.change.specs.Change.{freed_at}
+use Rattle.change.specs.Change.{code_of, freed_at}
 use Rattle.refine.specs.Lists.{slots_named, viewed_rows}
 use Rattle.infos.specs.Infos.{info_from, ranks_from}
-use Rattle.access.specs.declared.FirstBad.{FirstBad}
-use Rattle.access.specs.declared.FirstBad.TheVariants as code
+use Rattle.access.specs.declared.Bad as code
+use Rattle.access.specs.declared.Bad.TheVariants.{NotLive, Twice}
 use Rattle.infos.specs.declared.Ranking.{Ranking}
 
 -- the slot at a place, 256 past the last
@@ -41,15 +46,15 @@ named_first s ps slots = slots_named s ps ++ drop (length ps) slots
 abbrev pub live_first : Store → List Pair → List Pair
 live_first s ps = take (first_dead (is_held s) ps) ps
 
-pub record Found (s : Store) (ps : List Pair) (r : ℕ) (slots after : List ℕ) : Type 0 where
-  pub place : r ≡ first_dead (is_held s) ps
+pub record Found (s : Store) (ps : List Pair) (r : rust.Option ℕ) (slots after : List ℕ) : Type 0 where
+  pub place : r ≡ place_in (length ps) (first_dead (is_held s) ps)
   pub names : after ≡ named_first s (live_first s ps) slots
 
 -- the first bad pair as the code has it
-abbrev pub bad_of : FirstBad → Option Bad
-bad_of code.Nowhere = none
-bad_of (code.NotLive p) = some (record { place = p; fault = not_live })
-bad_of (code.Twice p) = some (record { place = p; fault = twice })
+abbrev pub bad_of : rust.Option code.Bad → Option Bad
+bad_of None = none
+bad_of (Some (NotLive p)) = some (record { place = p; fault = not_live })
+bad_of (Some (Twice p)) = some (record { place = p; fault = twice })
 
 -- 8: "key list names a pair not live, or a pair twice"
 abbrev pub number_of : Option Bad → ℕ
@@ -74,14 +79,14 @@ unfoldable pub slots_after : Store → List ℕ → List ℕ → List ℕ
 unfolding pairs_of whole_pairs first_dead
 slots_after s list slots = cond (whole_pairs list) (cond (ltb 256 (length (pairs_of list))) slots (named_first s (live_first s (pairs_of list)) slots)) slots
 
-pub record Refuses (s : Store) (list : List ℕ) (room r : ℕ) (slots after : List ℕ) : Type 0 where
-  pub number : r ≡ list_refusal s list room
+pub record Refuses (s : Store) (list : List ℕ) (room : ℕ) (r : Result Unit Refusal) (slots after : List ℕ) : Type 0 where
+  pub number : code_of r ≡ list_refusal s list room
   pub names : after ≡ slots_after s list slots
 
 -- on the memory of a store its refusal; 1 for a "key list not of whole pairs" on any memory
-pub record Judges (h : Cache) (ws list : List ℕ) (room r : ℕ) (slots after : List ℕ) : Type 0 where
+pub record Judges (h : Cache) (ws list : List ℕ) (room : ℕ) (r : Result Unit Refusal) (slots after : List ℕ) : Type 0 where
   pub tied : (s : Store) → length slots ≡ 256 → Tied s h ws → Refuses s list room r slots after
-  pub odd : whole_pairs list ≡ false → r ≡ 1
+  pub odd : whole_pairs list ≡ false → r ≡ Err Malformed
 
 -- ---- what is shown
 

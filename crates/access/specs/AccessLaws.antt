@@ -1,5 +1,7 @@
 -- Reading and taking a list, as the code meets it.
-use Rattle.std.specs.Prelude.{◌≡◌, Bool, cond, List, [], ◌∷◌, ◌++◌, set, take, drop, eqb}
+use Rattle.std.specs.Prelude.{◌≡◌, Bool, cond, List, [], ◌∷◌, ◌++◌, set, take, drop, eqb, ltb, Some, None}
+use Rattle.std.specs.Prelude as rust
+use Rattle.std.specs.Bool.{then_some}
 use Rattle.std.proofs.Math.Path.{refl, sym, ap}
 use Rattle.std.proofs.Common.{◌∙◌, le_of_suc-le-suc, not-suc-le-zero}
 use Rattle.std.proofs.Math.Bool.{true, false}
@@ -18,9 +20,9 @@ use Rattle.sampleinfo.specs.declared.Sample.{Sample}
 use Rattle.sampleinfo.specs.declared.Info.{Info}
 use Rattle.model.specs.Pairs.{Pair}
 use Rattle.sampleinfo.specs.declared.Ranks.{Ranks}
-use Rattle.pairs.specs.Flat.{pairs_of, pair_at}
+use Rattle.pairs.specs.Flat.{pairs_of}
 use Rattle.pairs.specs.FlatLaws.{length_pairs, no_pair, pair-at}
-use Rattle.pairs.specs.Repeat.{first_dead, bad_by}
+use Rattle.pairs.specs.Repeat.{first_dead, place_in}
 use Rattle.pairs.specs.BadLaws.{dead-here, dead-on, dead-past}
 use Rattle.store.specs.Store.{Store, slot_named, is_held, accessed_in}
 use Rattle.store.specs.Fit.{Fit}
@@ -29,13 +31,13 @@ use Rattle.index.specs.Memory.{View, head_of, Tied, Held}
 use Rattle.index.specs.MemoryLaws.{few32, owners-are, accessed-store, held_of}
 use Rattle.index.specs.Keeping.{fit-accessed, head-with}
 use Rattle.index.specs.declared.Cache.{Cache}
+use Rattle.lookup.specs.Lookup.{pair_of, slot_in}
 use Rattle.change.specs.Change.{Kept, freed_at}
 use Rattle.change.specs.Keeping.{tied-kept, fit-freed-at}
 use Rattle.refine.specs.Lists.{slots_named, viewed_rows}
 use Rattle.infos.specs.Infos.{info_from}
 use Rattle.infos.specs.Words.{put_info}
-use Rattle.access.specs.declared.FirstBad.TheVariants as code
-use Rattle.access.specs.Access.{slot_at, run, named_first, Found, bad_of, last_counts, noted, freed_each, viewed_word, viewed_by, settled}
+use Rattle.access.specs.Access.{slot_at, run, named_first, Found, last_counts, noted, freed_each, viewed_word, viewed_by, settled}
 
 -- ---- the slots of a list
 
@@ -73,77 +75,51 @@ named-first s ps slots i h = rw (taken i ps, length-of i ps h)
     length-of (suc i) [] h = absurd (not-suc-le-zero h)
     length-of (suc i) (p ∷ ps) h = ap suc (length-of i ps (le_of_suc-le-suc h))
 
+-- what an answer of a place says of the place
+some-place : (b : Bool) (n k : ℕ) → Some k ≡ then_some b n → (k ≡ n) × (b ≡ true)
+some-place true n k e = (cc, refl)
+some-place false n k e = let z : ◌≡◌ {A = ℕ} 0 1 = cc in absurd (omega arith)
+
+no-place : (b : Bool) (n : ℕ) → None ≡ then_some b n → b ≡ false
+no-place true n e = let z : ◌≡◌ {A = ℕ} 0 1 = cc in absurd (omega arith)
+no-place false n e = refl
+
 module _ (h : Cache) (ws list slots : List ℕ) (n i : ℕ) (now : List ℕ) (f : Finds h ws list slots i now) (e : n ≡ length list / 2) where
-  found_at : (s : Store) → length slots ≡ 256 → Tied s h ws → i ≤ length (pairs_of list) → first_dead (is_held s) (drop i (pairs_of list)) ≡ 0 → Found s (pairs_of list) i slots now
+  found_at : (r : rust.Option ℕ) (s : Store) → length slots ≡ 256 → Tied s h ws → i ≤ length (pairs_of list) → first_dead (is_held s) (drop i (pairs_of list)) ≡ 0
+      → r ≡ place_in (length (pairs_of list)) i → Found s (pairs_of list) r slots now
   unfolding Finds first_dead
-  found_at s long t l z =
+  found_at r s long t l z q =
       let d : i ≡ first_dead (is_held s) (pairs_of list) = omega (arith, (f s long t).1) in
-      record { place = d; names = (f s long t).0 ∙ named-first s (pairs_of list) slots i l ∙ ap (λ (k : ℕ). named_first s (take k (pairs_of list)) slots) d }
+      record { place = q ∙ ap (place_in (length (pairs_of list))) d; names = (f s long t).0 ∙ named-first s (pairs_of list) slots i l ∙ ap (λ (k : ℕ). named_first s (take k (pairs_of list)) slots) d }
 
-  pub finds-end : i ≤ n → n ≤ i → (s : Store) → length slots ≡ 256 → Tied s h ws → Found s (pairs_of list) i slots now
+  pub finds-end : i ≤ n → n ≤ i → (s : Store) → length slots ≡ 256 → Tied s h ws → Found s (pairs_of list) None slots now
   finds-end l b s long t = let m : length (pairs_of list) ≡ length list / 2 = length_pairs list in
-      found_at s long t (omega arith) (dead-past (is_held s) (pairs_of list) i (omega arith))
+      found_at None s long t (omega arith) (dead-past (is_held s) (pairs_of list) i (omega arith)) (rw (le-ltb i (length (pairs_of list)) (omega arith)))
 
-  module _ (slot : ℕ) (w : (z : Store) → Tied z h ws → slot ≡ slot_named z (pair_at (get_or list (2 * i) 0) (get_or list (2 * i + 1) 0))) (l : i < n) where
+  module _ (o : rust.Option ℕ) (w : (z : Store) → Tied z h ws → o ≡ slot_in (slot_named z (pair_of (get_or list (2 * i) 0) (get_or list (2 * i + 1) 0)))) (l : i < n) where
     within : i < length (pairs_of list)
     within = omega (arith, length_pairs list)
 
-    named-is : (s : Store) → Tied s h ws → slot ≡ slot_named s (get_or (pairs_of list) i no_pair)
-    named-is s t = w s t ∙ sym (ap (slot_named s) (pair-at list i (omega arith)))
+    named-is : (s : Store) → Tied s h ws → o ≡ slot_in (slot_named s (get_or (pairs_of list) i no_pair))
+    named-is s t = w s t ∙ sym (ap (λ (p : Pair). slot_in (slot_named s p)) (pair-at list i (omega arith)))
 
-    pub finds-dead : 256 ≤ slot → (s : Store) → length slots ≡ 256 → Tied s h ws → Found s (pairs_of list) i slots now
+    pub finds-dead : o ≡ None → (s : Store) → length slots ≡ 256 → Tied s h ws → Found s (pairs_of list) (Some i) slots now
     finds-dead b s long t =
-        found_at s long t (omega (arith, within)) (dead-here (is_held s) (pairs_of list) i within (rw (← (named-is s t)) (le-ltb slot 256 b)))
+        let dead : is_held s (get_or (pairs_of list) i no_pair) ≡ false = no-place (ltb (slot_named s (get_or (pairs_of list) i no_pair)) 256) (slot_named s (get_or (pairs_of list) i no_pair)) (sym b ∙ named-is s t) in
+        found_at (Some i) s long t (omega (arith, within)) (dead-here (is_held s) (pairs_of list) i within dead) (rw (lt-ltb i (length (pairs_of list)) within))
 
-    pub finds-on : slot < 256 → n ≤ 256 → Finds h ws list slots (i + 1) (set now i slot)
+    pub finds-on : (slot : ℕ) → o ≡ Some slot → n ≤ 256 → Finds h ws list slots (i + 1) (set now i slot)
     unfolding Finds
-    finds-on b few s long t =
+    finds-on slot b few s long t =
+        let x : ℕ = slot_named s (get_or (pairs_of list) i no_pair) in
+        let live : (slot ≡ x) × (ltb x 256 ≡ true) = some-place (ltb x 256) x slot (sym b ∙ named-is s t) in
         let k : length (slots_named s (pairs_of list)) ≡ length (pairs_of list) = length-map (pairs_of list) (slot_named s) in
-        let at : slot ≡ get_or (slots_named s (pairs_of list)) i 256 = named-is s t ∙ sym (get-named s (pairs_of list) i within) in
+        let at : slot ≡ get_or (slots_named s (pairs_of list)) i 256 = live.0 ∙ sym (get-named s (pairs_of list) i within) in
         let on : first_dead (is_held s) (drop i (pairs_of list)) ≡ suc (first_dead (is_held s) (drop (i + 1) (pairs_of list))) =
-        dead-on (is_held s) (pairs_of list) i within (rw (← (named-is s t)) (lt-ltb slot 256 b)) in
+        dead-on (is_held s) (pairs_of list) i within live.1 in
         (rw ((f s long t).0, at, add-one i) (put_next i (slots_named s (pairs_of list)) slots (omega (arith, within)) (omega arith)), omega (arith, (f s long t).1, on))
 
--- ---- the first bad pair, by its two places
-
-module _ (d r n : ℕ) where
-  pub bad-twice : r < d → bad_of (code.Twice r) ≡ bad_by d r n
-  bad-twice l = rw (lt-ltb r d l)
-
-  pub bad-dead : d ≤ r → d < n → bad_of (code.NotLive d) ≡ bad_by d r n
-  bad-dead k l = rw (le-ltb r d k, lt-ltb d n l)
-
-  pub bad-none : d ≤ r → n ≤ d → bad_of code.Nowhere ≡ bad_by d r n
-  bad-none k l = rw (le-ltb r d k, le-ltb d n l)
-
 -- ---- what is shown
-
-pub slot-past : (slots : List ℕ) (p : ℕ) → 256 ≤ p → 256 ≡ slot_at slots p
-slot-past slots p h = rw (le-ltb p 256 h)
-
-pub slot-in : (slots : List ℕ) (p : ℕ) → p < 256 → get_or slots p 0 ≡ slot_at slots p
-slot-in slots p h = rw (lt-ltb p 256 h)
-
-pub last_none : (ws slots : List ℕ) (n : ℕ) (c : NotAliveGenerationCounts) → c ≡ counts.zero → n ≡ 0 → c ≡ last_counts ws slots n
-unfolding last_counts
-last_none ws slots n c e z = rw z e
-
-pub last_some : (ws slots : List ℕ) (n row slot : ℕ) (x : InstanceMetaData) → x ≡ meta_at (metas_in ws) row → row ≡ get_or (owners_in ws) slot 0 → slot ≡ slot_at slots (n - 1) → (n ≡ 0 → ⊥)
-    → x.latest_generation_available ≡ last_counts ws slots n
-unfolding last_counts
-last_some ws slots n row slot x e f g z = rw (ne_eqb n 0 z, ← g, ← f, ← e)
-
-pub note-up : (seen : List ℕ) (row a : ℕ) → row < 32 → get_or seen row 0 < a → set seen row a ≡ noted seen row a
-unfolding noted
-note-up seen row a h l = rw (lt-ltb row 32 h, lt-ltb (get_or seen row 0) a l)
-
-pub note-kept : (seen : List ℕ) (row a : ℕ) → row < 32 → a ≤ get_or seen row 0 → seen ≡ noted seen row a
-unfolding noted
-note-kept seen row a h l = rw (lt-ltb row 32 h, le-ltb (get_or seen row 0) a l)
-
-pub note-past : (seen : List ℕ) (row a : ℕ) → 32 ≤ row → seen ≡ noted seen row a
-unfolding noted
-note-past seen row a h = rw (le-ltb row 32 h)
 
 pub show-info : (l m : List ℕ) (p : ℕ) (x : Info) (s : Sample) (i : InstanceMetaData) (r ranks : Ranks) (row slot : ℕ) (ws : List ℕ) → m ≡ put_info l p x
     → x ≡ info_from s i r → r ≡ ranks → i ≡ meta_at (metas_in ws) row → row ≡ get_or (owners_in ws) slot 0
@@ -193,12 +169,6 @@ module _ (h : Cache) (ws slots : List ℕ) (n p : ℕ) (head : Cache) (now : Lis
       rw (← same) z.tied
 
 -- ---- the rows viewed
-
-pub view-none : (ws : List ℕ) (row a : ℕ) → a ≡ 0 → ws ≡ viewed_word ws row a
-view-none ws row a e = rw e
-
-pub view-some : (ws end : List ℕ) (row a : ℕ) → end ≡ put_meta_word ws (4 * row + 3) a → (a ≡ 0 → ⊥) → end ≡ viewed_word ws row a
-view-some ws end row a e z = rw (ne_eqb a 0 z) e
 
 unfoldable pub Views : List ℕ → ℕ → List ℕ → ℕ → List ℕ → Type 0
 unfolding viewed_rows
@@ -253,10 +223,7 @@ tied-viewed s h ws seen end v t =
     let b : Fit (viewed_by seen s) × (head_of (viewed_by seen s) ≡ head_of s) = viewed-fit (length s.insts) (λ r. get_or seen r 0) s t.fit (omega arith) in
     record { fit = b.0; head = t.head ∙ sym b.1; words = (v s (held_of s h ws t)).words }
 
-module _ (h : Cache) (ws slots : List ℕ) (n : ℕ) (take : Bool) (seen : List ℕ) (end : List ℕ) where
-  pub settle_read : ((z : Store) → Held z h.held ws → Held (viewed_by seen z) h.held end) → take ≡ false → (s : Store) → Tied s h ws → Tied (settled s take (run n 0 slots) seen) h end
-  settle_read v e s t = rw e (tied-viewed s h ws seen end v t)
-
-  pub settle-take : (head : Cache) (mid : List ℕ) → ((z : Store) → Tied z h ws → Tied (freed_each z (run n 0 slots)) head mid)
-      → ((z : Store) → Held z head.held mid → Held (viewed_by seen z) head.held end) → take ≡ true → (s : Store) → Tied s h ws → Tied (settled s take (run n 0 slots) seen) head end
-  settle-take head mid f v e s t = rw e (tied-viewed (freed_each s (run n 0 slots)) head mid seen end v (f s t))
+module _ (h head : Cache) (ws mid slots : List ℕ) (n : ℕ) (take : Bool) (seen end : List ℕ) where
+  pub settle-done : ((s : Store) → Tied s h ws → Tied (cond take (freed_each s (run n 0 slots)) s) head mid) → ((z : Store) → Held z head.held mid → Held (viewed_by seen z) head.held end)
+      → (s : Store) → Tied s h ws → Tied (settled s take (run n 0 slots) seen) head end
+  settle-done f v s t = tied-viewed (cond take (freed_each s (run n 0 slots)) s) head mid seen end v (f s t)

@@ -1,97 +1,90 @@
 // Reading and taking a list on numbers: what is refused, which slots the list names, what is shown of each, and what is left in the index.
 #![tactic(auto)]
 
-ghost use Rattle.std.specs.Prelude.{◌≡◌, ◌+◌, ◌*◌, ◌/◌, ◌<◌, ◌≤◌, length, get_or};
+ghost use Rattle.std.specs.Prelude.{◌≡◌, ℕ, ◌+◌, ◌*◌, ◌/◌, ◌<◌, ◌≤◌, length, get_or};
 ghost use Rattle.sampleinfo.specs.Counts.{accessed_at};
 ghost use Rattle.sampleinfo.specs.Samples.{total_of};
 ghost use Rattle.pairs.specs.Flat.{pairs_of};
-ghost use Rattle.pairs.specs.Repeat.{bad_by};
+ghost use Rattle.pairs.specs.Repeat.{bad_by, place_in};
 ghost use Rattle.store.specs.Store.{Store};
 ghost use Rattle.index.specs.Words.{metas_in, owners_in, meta_at};
 ghost use Rattle.index.specs.Memory.{Tied, Held};
 ghost use Rattle.infos.specs.Infos.{ranks_from, info_from};
 ghost use Rattle.infos.specs.Words.{put_info};
-ghost use Rattle.access.specs.Access.{slot_at, run, Judges, Found, number_of, bad_of, noted, last_counts, freed_each, viewed_word, viewed_by, settled};
+ghost use Rattle.access.specs.Access.{slot_at, run, Judges, Found, bad_of, noted, last_counts, freed_each, viewed_word, viewed_by, settled};
 
 use index::Cache;
+use refusals::Refusal;
 use sampleinfo::{NotAliveGenerationCounts, Sample};
 
 // ---- what is refused
 
-// The first bad pair of a list: what is wrong with it, and where it stands, counted from 0.
+// A bad pair of a list: what is wrong with it, and where it stands, counted from 0.
 #[derive(Clone, Copy)]
-enum FirstBad {
-    Nowhere,
+enum Bad {
     NotLive(usize),
     Twice(usize),
 }
 
-impl FirstBad {
-    // "8 key list names a pair not live, or a pair twice"; 0 where no pair is bad.
-    fn refusal(self) -> u64
-        ensures { result ≡ number_of (bad_of self) }
-    {
-        match self {
-            FirstBad::Nowhere => 0,
-            FirstBad::NotLive(_) => 8,
-            FirstBad::Twice(_) => 8,
-        }
-    }
-}
-
-// The slot of each pair goes to its place, up to the first pair that is not live. The answer is that one's place, or the number of pairs.
-fn find_slots(h: Cache, ws: &[u64; 928], list: &[u64], n: usize, slots: &mut [u64; 256]) -> usize
+// The slot of each of n pairs goes to its place, up to the first pair that is not live. The answer is that one's place.
+fn find_slots(
+    h: Cache,
+    ws: &[u64; Cache::WORDS],
+    list: &[u64],
+    n: usize,
+    slots: &mut [u64; 256],
+) -> Option<usize>
     requires { (n ≡ length list.now / 2) × (n ≤ 256) }
     ensures { (s : Store) → length slots.old ≡ 256 → Tied s h ws.now → Found s (pairs_of list.now) result slots.old slots.new }
 {
-    let mut i = 0;
-    while i < n {
-        let slot = lookup::locate(h, ws, list[2 * i], list[2 * i + 1]);
-        if Cache::SLOTS <= slot {
-            return i;
-        }
+    for i in 0..n {
+        let Some(slot) = lookup::locate(h, ws, list[2 * i], list[2 * i + 1]) else {
+            return Some(i);
+        };
         slots[i] = slot as u64;
-        i += 1;
     }
-    i
+    None
 }
 
-// Of n pairs, by the places of the first that is not live and of the first repeat: the earlier one decides.
-fn first_bad(dead: usize, twice: usize, n: usize) -> FirstBad
-    ensures { bad_of result ≡ bad_by dead twice n }
+// By the places of the first that is not live and of the first repeat, of n pairs: the earlier one decides.
+fn first_bad(dead: Option<usize>, twice: Option<usize>) -> Option<Bad>
+    ensures { (n d r : ℕ) → d ≤ n → r ≤ n → dead ≡ place_in n d → twice ≡ place_in n r → bad_of result ≡ bad_by d r n }
 {
-    if twice < dead {
-        return FirstBad::Twice(twice);
+    match (dead, twice) {
+        (Some(dead), Some(twice)) if twice < dead => Some(Bad::Twice(twice)),
+        (Some(dead), _) => Some(Bad::NotLive(dead)),
+        (None, Some(twice)) => Some(Bad::Twice(twice)),
+        (None, None) => None,
     }
-    if dead < n {
-        return FirstBad::NotLive(dead);
-    }
-    FirstBad::Nowhere
 }
 
-// "Lists: 8, 9", after 1; 0 where the list is accepted, and then its slots stand first in `slots`. The room is in infos.
-pub fn refusal(h: Cache, ws: &[u64; 928], list: &[u64], room: usize, slots: &mut [u64; 256]) -> u64
+// "Lists: 8, 9", after 1. The slots of a list that is accepted stand first in `slots`. The room is in infos.
+pub fn refusal(
+    h: Cache,
+    ws: &[u64; Cache::WORDS],
+    list: &[u64],
+    room: usize,
+    slots: &mut [u64; 256],
+) -> Result<(), Refusal>
     ensures { Judges h ws.now list.now room result slots.old slots.new }
 {
     if !pairs::whole(list) {
-        return 1;
+        return Err(Refusal::Malformed);
     }
     let n = list.len() / 2;
     // no more than 256 pairs are live, so one of these is bad
     if Cache::SLOTS < n {
-        return 8;
+        return Err(Refusal::BadList);
     }
     let twice = pairs::first_repeat(list);
     let dead = find_slots(h, ws, list, n, slots);
-    let bad = first_bad(dead, twice, n);
-    let number = bad.refusal();
-    if number != 0 {
-        return number;
+    if first_bad(dead, twice).is_some() {
+        return Err(Refusal::BadList);
     }
     if room < n {
-        return 9;
+        return Err(Refusal::NoRoom);
     }
-    0
+    Ok(())
 }
 
 // ---- what is shown
@@ -107,7 +100,12 @@ pub fn slot_at(slots: &[u64; 256], p: usize) -> usize
 }
 
 // The counts of the instance of the list's last pair.
-pub fn last_counts(ws: &[u64; 928], slots: &[u64; 256], n: usize) -> NotAliveGenerationCounts
+#[tactic(auto, unfolding(crate::specs::Access::last_counts))]
+pub fn last_counts(
+    ws: &[u64; Cache::WORDS],
+    slots: &[u64; 256],
+    n: usize,
+) -> NotAliveGenerationCounts
     ensures { result ≡ last_counts ws.now slots.now n }
 {
     if n == 0 {
@@ -118,20 +116,19 @@ pub fn last_counts(ws: &[u64; 928], slots: &[u64; 256], n: usize) -> NotAliveGen
     imd.latest_generation_available
 }
 
-// What was accessed of a row: the greatest so far.
+// What was accessed of a row: the greatest so far. An `if` and not `max`, which stores where nothing rises too.
+#[tactic(auto, unfolding(crate::specs::Access::noted))]
 fn note(seen: &mut [u64; 32], row: usize, accessed: u64)
     ensures { seen.new ≡ noted seen.old row accessed }
 {
-    if row < Cache::ROWS {
-        if seen[row] < accessed {
-            seen[row] = accessed;
-        }
+    if row < Cache::ROWS && seen[row] < accessed {
+        seen[row] = accessed;
     }
 }
 
 // The info of a slot's sample goes to place p of the list, which `follow` others come after; what the list showed of its instance is noted.
 pub fn show(
-    ws: &[u64; 928],
+    ws: &[u64; Cache::WORDS],
     slot: usize,
     s: Sample,
     p: usize,
@@ -154,22 +151,20 @@ pub fn show(
 // ---- what is left
 
 // The slots become free, one after the other.
-fn free_all(h: Cache, ws: &mut [u64; 928], slots: &[u64; 256], n: usize) -> Cache
+fn free_all(h: Cache, ws: &mut [u64; Cache::WORDS], slots: &[u64; 256], n: usize) -> Cache
     ensures { (s : Store) → Tied s h ws.old → Tied (freed_each s (run n 0 slots.now)) result ws.new }
 {
     let mut head = h;
-    let mut p = 0;
-    while p < n {
+    for p in 0..n {
         let slot = slot_at(slots, p);
         let row = index::owner_at(ws, slot) as usize;
         head = change::free_slot(head, ws, row, slot);
-        p += 1;
     }
     head
 }
 
 // An instance that the list did not show keeps what it had.
-fn view_row(ws: &mut [u64; 928], row: usize, accessed: u64)
+fn view_row(ws: &mut [u64; Cache::WORDS], row: usize, accessed: u64)
     ensures { ws.new ≡ viewed_word ws.old row accessed }
 {
     if accessed != 0 {
@@ -178,21 +173,19 @@ fn view_row(ws: &mut [u64; 928], row: usize, accessed: u64)
 }
 
 // mark_instances_viewed: each instance gets what was seen of it.
-fn view_rows(ws: &mut [u64; 928], held: usize, seen: &[u64; 32])
+fn view_rows(ws: &mut [u64; Cache::WORDS], held: usize, seen: &[u64; 32])
     ensures { (s : Store) → Held s held ws.old → Held (viewed_by seen.now s) held ws.new }
 {
-    let rows = index::rows_held(held);
-    let mut row = 0;
-    while row < rows {
+    for row in 0..index::rows_held(held) {
         view_row(ws, row, seen[row]);
-        row += 1;
     }
 }
 
-// What the call leaves in the header and the index, once its infos are made.
+// What the call leaves in the header and the index, once its infos are made. `take` is the model's own Bool: a read and a
+// take differ in this one step.
 pub fn settle(
     h: Cache,
-    ws: &mut [u64; 928],
+    ws: &mut [u64; Cache::WORDS],
     slots: &[u64; 256],
     n: usize,
     take: bool,
@@ -200,11 +193,7 @@ pub fn settle(
 ) -> Cache
     ensures { (s : Store) → Tied s h ws.old → Tied (settled s take (run n 0 slots.now) seen.now) result ws.new }
 {
-    if take {
-        let head = free_all(h, ws, slots, n);
-        view_rows(ws, head.held, seen);
-        return head;
-    }
-    view_rows(ws, h.held, seen);
-    h
+    let head = if take { free_all(h, ws, slots, n) } else { h };
+    view_rows(ws, head.held, seen);
+    head
 }

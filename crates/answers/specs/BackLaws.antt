@@ -3,7 +3,7 @@ use Rattle.std.specs.Prelude.{◌≡◌, refl, replicate}
 use Rattle.std.proofs.Math.Path.{sym, ap}
 use Rattle.std.proofs.Common.{◌∙◌, not-suc-le-zero, le_of_suc-le-suc, arith, lt-ltb, take-append-drop, get_or-append-add, drop-cons, length-take-le}
 use mathlib.Core.List.{List, [], ◌∷◌, ◌++◌, append_assoc}
-use Prim.Native.Nat.{ℕ, zero, suc, ◌+◌, ◌*◌, ◌≤◌, ◌<◌}
+use Prim.Native.Nat.{ℕ, zero, suc, ◌*◌, ◌≤◌, ◌<◌}
 use Rattle.std.proofs.Math.ListN.{length, get_or, take, drop, length-append}
 use Rattle.lists.specs.Every.{Every}
 use Rattle.sampleinfo.specs.declared.Info.{Info}

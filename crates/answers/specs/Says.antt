@@ -1,5 +1,7 @@
 -- Which answer of document 01 a reply stands for, with the lent words beside it.
-use Rattle.std.specs.Prelude.{◌≡◌, List, ℕ, ◌≤◌, length, take}
+use Rattle.std.specs.Prelude.{◌≡◌, List, ℕ, ◌≤◌, length, take, Result, Ok, Err}
+use Rattle.refusals.specs.declared.Refusal.{Refusal}
+use Rattle.refusals.specs.Numbers.{number_of}
 use Rattle.lists.specs.Every.{Every}
 use Rattle.sampleinfo.specs.declared.Info.{Info}
 use Rattle.model.specs.Model.{Answer, refused, ok, added, selected, infos, next}
@@ -24,10 +26,10 @@ Shows n is (added k s e) = ⊥
 Shows n is (selected ps) = ⊥
 Shows n is (next k) = ⊥
 
-abbrev pub Says : Reply → List ℕ → List ℕ → Answer → Type 0
-Says (reply.Refused n) ps is a = a ≡ refused n
-Says reply.Ok ps is a = a ≡ ok
-Says (reply.Added k s e) ps is a = a ≡ added k s (number_in e)
-Says (reply.Selected n) ps is a = (a ≡ selected (take n (pairs_of ps))) × (n ≤ length (pairs_of ps))
-Says (reply.Infos n) ps is a = Shows n is a
-Says (reply.Next x) ps is a = a ≡ next (number_in x)
+abbrev pub Says : Result Reply Refusal → List ℕ → List ℕ → Answer → Type 0
+Says (Err e) ps is a = a ≡ refused (number_of e)
+Says (Ok reply.Ok) ps is a = a ≡ ok
+Says (Ok (reply.Added k s e)) ps is a = a ≡ added k s (number_in e)
+Says (Ok (reply.Selected n)) ps is a = (a ≡ selected (take n (pairs_of ps))) × (n ≤ length (pairs_of ps))
+Says (Ok (reply.Infos n)) ps is a = Shows n is a
+Says (Ok (reply.Next x)) ps is a = a ≡ next (number_in x)

@@ -1,7 +1,7 @@
 // The answer of a call as a value, and the lines that it prints.
 #![tactic(auto)]
 
-ghost use Rattle.std.specs.Prelude.{List, ◌≤◌, length, take};
+ghost use Rattle.std.specs.Prelude.{◌≡◌, List, ◌≤◌, length, take};
 ghost use Rattle.sampleinfo.specs.declared.Info.{Info};
 ghost use Rattle.model.specs.Model as model;
 ghost use Rattle.model.specs.Model.{Answer, selected};
@@ -10,18 +10,23 @@ ghost use Rattle.printing.specs.Printout.{printed};
 ghost use Rattle.printing.specs.Lines.{Laid};
 ghost use Rattle.answers.specs.Sizes.{most};
 ghost use Rattle.answers.specs.Says.{Shown, Says};
+ghost use Rattle.answers.specs.SoFar.{IsBlank, Lays};
 
-use printing::Maybe;
+use refusals::Refusal;
+use text::Page;
 
-// What a call answers. The pairs of a selection and the infos of a list stand in lent words, and their number here.
+// What a call answers that is not refused. The pairs of a selection and the infos of a list stand in lent words, and their number here.
 #[derive(Clone, Copy)]
 pub enum Reply {
-    Refused(u64),
     Ok,
-    Added { key: u64, slot: u64, evicted: Maybe },
+    Added {
+        key: u64,
+        slot: u64,
+        evicted: Option<u64>,
+    },
     Selected(usize),
     Infos(usize),
-    Next(Maybe),
+    Next(Option<u64>),
 }
 
 impl Reply {
@@ -37,56 +42,64 @@ impl Reply {
     pub const LINES_SIZE: usize = printing::LINE_ROOM * (Reply::MOST + 2);
 }
 
+// Two loops: of a closure that adds a line, one loop would have to be told all that the two tell.
+
 // A line that says how many there are, and a line for each pair.
-fn pair_lines(pairs: &[u64], n: usize, line: &mut [u8; Reply::LINES_SIZE]) -> usize
-    ensures { n ≤ most → n ≤ length (pairs_of pairs.now) → Laid line.old 0 (printed (selected (take n (pairs_of pairs.now)))) line.new result }
+fn pair_lines(page: &mut Page, words: &[u64], n: usize)
+    requires { IsBlank page.old }
+    ensures same { page.new.bytes.ghost_name ≡ page.old.bytes.ghost_name }
+    ensures told { n ≤ most → n ≤ length (pairs_of words.now) → Lays page.old (printed (selected (take n (pairs_of words.now)))) page.new }
 {
-    let mut at = printing::selected_line(line, 0, n as u64);
-    let mut p = 0;
-    while p < n {
-        if pairs.len() / 2 <= p {
-            return at;
-        }
-        let key = pairs[2 * p];
-        let instance = pairs[2 * p + 1];
-        at = printing::pair_line(line, at, key, instance);
-        p += 1;
+    printing::selected_line(page, n as u64);
+    let (pairs, _) = words.as_chunks::<2>();
+    let shown = &pairs[..n.min(pairs.len())];
+    for pair in shown {
+        printing::pair_line(page, pair[0], pair[1]);
     }
-    at
 }
 
 // A line that says how many there are, and a line for each info.
-fn info_lines(
-    infos: &[u64; Reply::INFOS_SIZE],
-    n: usize,
-    line: &mut [u8; Reply::LINES_SIZE],
-) -> usize
-    ensures { (xs : List Info) → Shown n infos.now xs → Laid line.old 0 (printed (model.infos xs)) line.new result }
+fn info_lines(page: &mut Page, infos: &[u64; Reply::INFOS_SIZE], n: usize)
+    requires { IsBlank page.old }
+    ensures same { page.new.bytes.ghost_name ≡ page.old.bytes.ghost_name }
+    ensures told { (xs : List Info) → Shown n infos.now xs → Lays page.old (printed (model.infos xs)) page.new }
 {
-    let mut at = printing::samples_line(line, 0, n as u64);
-    let mut p = 0;
-    while p < n {
-        at = printing::info_line(line, at, infos::get_info(infos, p));
-        p += 1;
+    printing::samples_line(page, n as u64);
+    for p in 0..n {
+        printing::info_line(page, infos::get_info(infos, p));
     }
-    at
+}
+
+fn lines(
+    page: &mut Page,
+    r: Result<Reply, Refusal>,
+    pairs: &[u64; Reply::PAIRS_SIZE],
+    infos: &[u64; Reply::INFOS_SIZE],
+)
+    requires { IsBlank page.old }
+    ensures same { page.new.bytes.ghost_name ≡ page.old.bytes.ghost_name }
+    ensures told { (a : Answer) → Says r pairs.now infos.now a → Lays page.old (printed a) page.new }
+{
+    match r {
+        Err(refusal) => printing::refused_line(page, refusal.number()),
+        Ok(Reply::Ok) => printing::ok_line(page),
+        Ok(Reply::Added { key, slot, evicted }) => printing::key_line(page, key, slot, evicted),
+        Ok(Reply::Selected(n)) => pair_lines(page, pairs, n),
+        Ok(Reply::Infos(n)) => info_lines(page, infos, n),
+        Ok(Reply::Next(key)) => printing::next_line(page, key),
+    }
 }
 
 // The lines of an answer go to the front of the lent bytes; the answer is how many bytes they are.
 pub fn print(
-    r: Reply,
+    r: Result<Reply, Refusal>,
     pairs: &[u64; Reply::PAIRS_SIZE],
     infos: &[u64; Reply::INFOS_SIZE],
     line: &mut [u8; Reply::LINES_SIZE],
 ) -> usize
     ensures { (a : Answer) → Says r pairs.now infos.now a → Laid line.old 0 (printed a) line.new result }
 {
-    match r {
-        Reply::Refused(n) => printing::refused_line(line, 0, n),
-        Reply::Ok => printing::ok_line(line, 0),
-        Reply::Added { key, slot, evicted } => printing::key_line(line, 0, key, slot, evicted),
-        Reply::Selected(n) => pair_lines(pairs, n, line),
-        Reply::Infos(n) => info_lines(infos, n, line),
-        Reply::Next(x) => printing::next_line(line, 0, x),
-    }
+    let mut page = Page::new(line);
+    lines(&mut page, r, pairs, infos);
+    page.at
 }

@@ -1,13 +1,22 @@
 -- What a set-up, a no-writers event and a freed slot leave in the header and in the lent words.
-use Rattle.std.specs.Prelude.{◌≡◌, cond, List, ℕ, zero, suc, ◌+◌, ◌*◌, length, get_or, set, ltb, eqb}
+use Rattle.std.specs.Prelude.{◌≡◌, cond, List, ℕ, zero, suc, ◌+◌, length, get_or, set, take, drop, replicate, ◌++◌, ltb, eqb}
+use Rattle.std.specs.declared.result.Result.{Result}
+use Rattle.std.specs.declared.result.Result.TheVariants.{Ok, Err}
+use Rattle.refusals.specs.Numbers.{number_of}
+use Rattle.refusals.specs.declared.Refusal.{Refusal}
 use Rattle.store.specs.Store.{Store, Event, freed}
 use Rattle.index.specs.Words.{cells_in, put_cell}
 use Rattle.index.specs.Memory.{index_of, head_of, shown}
 use Rattle.index.specs.declared.Cache.{Cache}
 
+-- the number of a refusal, 0 for an event that is accepted
+abbrev pub code_of : Result Unit Refusal → ℕ
+code_of (Ok u) = 0
+code_of (Err r) = number_of r
+
 -- the answer and the words of an event; the header stays as it is
-pub record Left (e : Event) (r : ℕ) (ws : List ℕ) : Type 0 where
-  pub code : r ≡ e.code
+pub record Left (e : Event) (r : Result Unit Refusal) (ws : List ℕ) : Type 0 where
+  pub code : code_of r ≡ e.code
   pub words : ws ≡ index_of e.then
 
 -- the header and the words are those of the store
@@ -19,12 +28,11 @@ pub record Kept (s : Store) (h : Cache) (ws : List ℕ) : Type 0 where
 abbrev pub freed_at : Store → ℕ → ℕ → Store
 freed_at s row slot = cond (ltb row (length s.insts)) (freed s row slot) s
 
--- ---- as the loops go
+-- every cell holds no slot
+abbrev pub cleared : List ℕ → List ℕ
+cleared ws = take 160 ws ++ (replicate 256 256 ++ drop 416 ws)
 
--- n cells hold no slot
-unfoldable pub fill_cells : List ℕ → ℕ → List ℕ
-fill_cells ws zero = ws
-fill_cells ws (suc n) = let w : List ℕ = fill_cells ws n in put_cell w n 256
+-- ---- as the loop goes
 
 abbrev pub empty_cell : ℕ → ℕ → ℕ
 empty_cell slot c = cond (eqb c slot) 256 c

@@ -1,100 +1,66 @@
 -- A set-up, a no-writers event and a freed slot, as the code meets them.
 use Rattle.std.proofs.Math.Path.{◌≡◌, refl, sym, ap}
-use Rattle.std.proofs.Common.{◌∙◌, mul-zero, mul-le-mul_left, le_of_lt, add-one, arith, length-set, length-append, length-take, take-suc, drop-cons, take_all, length-take-le, Fits}
-use Rattle.std.specs.Prelude.{Bool, true, false, take, drop, replicate, ltb, eqb}
+use Rattle.std.proofs.Common.{◌∙◌, mul-zero, arith, length-set, take-suc, drop-cons, take_all, length-take-le}
+use Rattle.std.specs.Prelude.{None, take, drop, replicate, eqb}
 use Rattle.std.proofs.Math.Bool.{cond}
 use mathlib.Core.List.{List, [], ◌∷◌, ◌++◌, map, append_assoc, append-nil}
-use Rattle.std.proofs.Math.Option.{Option, some, none}
-use Prim.Native.Nat.{ℕ, zero, suc, ◌+◌, ◌-◌, ◌*◌, ◌≤◌, ◌<◌}
-use Rattle.std.proofs.Math.Nat.{sub-zero}
-use borrow.Author.Tests.{lt-ltb, le-ltb, eq-eqb, ne_eqb}
-use Rattle.std.proofs.Math.ListN.{length, get_or, set, length-map, get_or-map}
-use Rattle.std.proofs.lemmas.List.{length-replicate, replicate-append-replicate, set_at, get_or_at}
+use Rattle.std.proofs.Math.Option.{Option}
+use Prim.Native.Nat.{ℕ, zero, suc, ◌+◌, ◌*◌, ◌≤◌, ◌<◌}
+use borrow.Author.Tests.{lt-ltb, le-ltb}
+use Rattle.std.proofs.Math.ListN.{length, get_or, set, length-map}
+use Rattle.std.proofs.lemmas.List.{drop-drop, length-drop, set_at, get_or_at}
 use Rattle.std.proofs.Math.Seq.{drop-length}
-use Rattle.std.specs.Int.{w64}
+use Rattle.std.specs.declared.result.Result.TheVariants.{Ok, Err}
+use Rattle.refusals.specs.declared.Refusal.TheVariants as refusal
 use Rattle.lists.specs.Blocks.{flat, filled, Even, put_at, map-put, get-map, length-put-in}
 use Rattle.lists.specs.Regions.{join}
 use Rattle.slots.specs.Bits.{bits_of}
 use Rattle.slots.specs.declared.Free.{Free}
-use Rattle.keys.specs.declared.Last.{Last}
-use Rattle.keys.specs.declared.Last.TheVariants as last
+use Rattle.keys.specs.Keys.{Last}
 use Rattle.sampleinfo.specs.Lifecycle.{no_writers_of}
 use Rattle.sampleinfo.specs.declared.InstanceMetaData.{InstanceMetaData}
-use Rattle.store.specs.Store.{Inst, Store, place_of, no_inst, inst_at, with_meta, with_inst, dying, emptied, freed}
+use Rattle.store.specs.Store.{Inst, Store, place_of, no_inst, inst_at, dying, emptied, freed}
 use Rattle.store.specs.Fit.{Fit, depth_of}
-use Rattle.index.specs.Words.{region, store, words, padded, meta_at, put_meta, put_slot}
+use Rattle.index.specs.Words.{region, words, padded, meta_at, put_meta, put_slot}
 use Rattle.index.specs.WordLaws.{in_cells, to-cells, block-set, block-get, block_same, length-block, slot-join}
-use Rattle.index.specs.Memory.{name_of, line_of, cells_of, index_of, View, shown, head_of, Tied, Held, fresh_store}
-use Rattle.index.specs.MemoryLaws.{names, metas, cells, names-long, metas-long, cells-long, even-cells, cells_fit, deep_room, meta-is, meta-store, same_map}
+use Rattle.index.specs.Memory.{name_of, line_of, cells_of, index_of, View, Tied, Held, fresh_store}
+use Rattle.index.specs.MemoryLaws.{names, metas, cells, names-long, metas-long, even-cells, cells_fit, deep_room, meta-is, meta-store, same_map}
 use Rattle.index.specs.declared.Cache.{Cache}
-use Rattle.change.specs.Change.{Left, Kept, freed_at, fill_cells, empty_cell, emptying, empty_block}
+use Rattle.change.specs.Change.{Left, Kept, freed_at, cleared, empty_cell, emptying, empty_block}
 
 -- ---- set-up
 
-pub fill_start : (ws : List ℕ) → ws ≡ fill_cells ws 0
-unfolding fill_cells
-fill_start ws = refl
-
-pub fill_on : (ws w end : List ℕ) (i : ℕ) → end ≡ store 160 256 w i 256 → w ≡ fill_cells ws i → end ≡ fill_cells ws (i + 1)
-unfolding fill_cells
-fill_on ws w end i p q =
-    let e : end ≡ fill_cells ws (suc i) = rw (p, q) in
-    e ∙ ap (λ (n : ℕ). fill_cells ws n) (sym (add-one i))
-
-pub fill_end : (ws w : List ℕ) (i : ℕ) → w ≡ fill_cells ws i → i ≤ 256 → 256 ≤ i → w ≡ fill_cells ws 256
-fill_end ws w i p h k = let e : i ≡ 256 = omega arith in rw e at p
-
--- n cells of 256, the rest of 0
-half : ℕ → List ℕ
-half n = replicate n 256 ++ replicate (256 - n) 0
-
-half-long : (n : ℕ) → n ≤ 256 → length (half n) ≡ 256
-unfolding half
-half-long n h = simp (length-append, length-replicate) (omega arith)
-
-one_more : (n x : ℕ) (ys : List ℕ) → replicate n x ++ x ∷ ys ≡ x ∷ (replicate n x ++ ys)
-one_more zero x ys = refl
-one_more (suc n) x ys = ap (λ (l : List ℕ). x ∷ l) (one_more n x ys)
-
-half-set : (n : ℕ) → n < 256 → set (half n) n 256 ≡ half (suc n)
-unfolding half
-half-set n h =
-    let r : 256 - n ≡ suc (256 - suc n) = omega arith in
-    rw r (set_at (replicate n 256) 0 (replicate (256 - suc n) 0) 256 n (length-replicate n 256) ∙ one_more n 256 (replicate (256 - suc n) 0))
+pub cells_filled : (ws part : List ℕ) → length ws ≡ 928 → part ≡ replicate (length (take 256 (drop 160 ws))) 256 → take 160 ws ++ (part ++ drop 256 (drop 160 ws)) ≡ cleared ws
+cells_filled ws part h e =
+    let long : length (take 256 (drop 160 ws)) ≡ 256 = length-take-le 256 (drop 160 ws) (omega (arith, length-drop 160 ws)) in
+    rw (e, long, drop-drop)
 
 blank : List ℕ → List ℕ
 blank c = words (replicate 32 0) (replicate 128 0) c (replicate 256 0) (replicate 256 0)
 
-fill-blank : (n : ℕ) → n ≤ 256 → fill_cells (blank (half 0)) n ≡ blank (half n)
-unfolding fill_cells blank
-fill-blank zero h = refl
-fill-blank (suc n) h =
-    rw (fill-blank n (omega arith))
-    (to-cells (replicate 32 0) (replicate 128 0) (half n) (replicate 256 0) (replicate 256 0) refl refl (half-long n (omega arith)) refl refl n 256 ∙ rw (half-set n h))
+all-cleared : cleared (replicate 928 0) ≡ blank (replicate 256 256)
+unfolding blank words join
+all-cleared = refl
 
-all-blank : replicate 928 0 ≡ blank (half 0)
-unfolding blank half words join
-all-blank = refl
-
-fresh-words : (keep : Option ℕ) (room : ℕ) → index_of (fresh_store keep room) ≡ blank (half 256)
-unfolding index_of blank half filled padded flat
+fresh-words : (keep : Option ℕ) (room : ℕ) → index_of (fresh_store keep room) ≡ blank (replicate 256 256)
+unfolding index_of blank filled padded flat
 fresh-words keep room = rw (mul-zero (depth_of keep))
 
-pub set-up-done : (w end : List ℕ) (depth room : ℕ) (free : Free) → end ≡ fill_cells w 256 → w ≡ replicate 928 0 → bits_of free.words ≡ replicate 256 1 → (keep : Option ℕ) → depth ≡ depth_of keep
-    → Kept (fresh_store keep room) (record { depth = depth; room = room; held = 0; last = last.Never; newest = 256; free = free }) end
+pub set-up-done : (w end : List ℕ) (depth room : ℕ) (free : Free) → end ≡ cleared w → w ≡ replicate 928 0 → bits_of free.words ≡ replicate 256 1 → (keep : Option ℕ) → depth ≡ depth_of keep
+    → Kept (fresh_store keep room) (record { depth = depth; room = room; held = 0; last = None; newest = 256; free = free }) end
 set-up-done w end depth room free p q b keep e = record {
   head = rw (b, e);
-  words = p ∙ rw (q, all-blank) (fill-blank 256 (omega arith)) ∙ sym (fresh-words keep room);
+  words = p ∙ rw q all-cleared ∙ sym (fresh-words keep room);
 }
 
 -- ---- the no-writers event
 
 module _ (ws : List ℕ) (held name row : ℕ) (w : (z : Store) → Held z held ws → row ≡ place_of name z.insts) where
-  pub unknown : held ≤ row → (s : Store) → Held s held ws → Left (dying s name) 3 ws
+  pub unknown : held ≤ row → (s : Store) → Held s held ws → Left (dying s name) (Err refusal.UnknownInstance) ws
   unfolding dying
   unknown m s t = rw (← (w s t), le-ltb row (length s.insts) (omega (arith, t.count))) (record { code = refl; words = t.words })
 
-  pub left-done : (x y : InstanceMetaData) (end : List ℕ) → end ≡ put_meta ws row y → y ≡ no_writers_of x → x ≡ meta_at (region 32 128 ws) row → row < held → (s : Store) → Held s held ws → Left (dying s name) 0 end
+  pub left-done : (x y : InstanceMetaData) (end : List ℕ) → end ≡ put_meta ws row y → y ≡ no_writers_of x → x ≡ meta_at (region 32 128 ws) row → row < held → (s : Store) → Held s held ws → Left (dying s name) (Ok tt) end
   unfolding dying
   left-done x y end p q r m s t =
       let l : row < length s.insts = omega (arith, t.count) in
@@ -103,34 +69,6 @@ module _ (ws : List ℕ) (held name row : ℕ) (w : (z : Store) → Held z held 
       (record { code = refl; words = p ∙ rw (q, xs, t.words) (meta-store s t.fit row l (no_writers_of (inst_at s row).meta)) })
 
 -- ---- a slot that becomes free
-
-pub is-empty : (slot c : ℕ) → c ≡ slot → 256 ≡ empty_cell slot c
-is-empty slot c e = rw (eq-eqb c slot e)
-
-pub is-kept : (slot c : ℕ) → (c ≡ slot → ⊥) → c ≡ empty_cell slot c
-is-kept slot c e = rw (ne_eqb c slot e)
-
-pub product : (d a : ℕ) → d ≤ 256 → a < 32 → d * a ≤ 8192
-product d a h k = omega (arith, mul-le-mul_left d (le_of_lt k))
-
-pub product-fits : (d a : ℕ) → d ≤ 256 → a < 32 → Fits w64 (d * a)
-product-fits d a h k = omega (arith, product d a h k)
-
-pub cell-fits : (d a j : ℕ) → d ≤ 256 → a < 32 → j < d → Fits w64 (d * a + j)
-cell-fits d a j h k l = omega (arith, product d a h k)
-
-pub empty-start : (ws : List ℕ) (b slot : ℕ) → ws ≡ emptying ws b slot 0
-unfolding emptying
-empty-start ws b slot = refl
-
-pub empty-on : (ws w end : List ℕ) (b j slot c d : ℕ) → end ≡ store 160 256 w (b + j) d → d ≡ empty_cell slot c → c ≡ get_or (region 160 256 w) (b + j) 0 → w ≡ emptying ws b slot j → end ≡ emptying ws b slot (j + 1)
-unfolding emptying
-empty-on ws w end b j slot c d p q r s =
-    let e : end ≡ emptying ws b slot (suc j) = rw (p, q, r, s) in
-    e ∙ ap (λ (n : ℕ). emptying ws b slot n) (sym (add-one j))
-
-pub empty-end : (ws w : List ℕ) (b j slot d : ℕ) → w ≡ emptying ws b slot j → j ≤ d → d ≤ j → w ≡ emptying ws b slot d
-empty-end ws w b j slot d p h k = let e : j ≡ d = omega arith in rw e at p
 
 -- in a window alone
 
@@ -215,20 +153,6 @@ module _ (s : Store) (f : Fit s) (row slot : ℕ) (h : row < length s.insts) whe
       ∙ sym freed-is
 
 module _ (h : Cache) (ws : List ℕ) (row slot : ℕ) where
-  pub free-out : h.held ≤ row → (s : Store) → Tied s h ws → Kept (freed_at s row slot) h ws
-  free-out m s t =
-      let l : length s.insts ≤ row = omega (arith, ap (λ (v : View). v.held) t.head) in
-      rw (le-ltb row (length s.insts) l) (record { head = t.head; words = t.words })
-
-  -- what the guards turn away is no store's
-  pub free-far : row < h.held → 32 ≤ row → (s : Store) → Tied s h ws → Kept (freed_at s row slot) h ws
-  free-far m n s t = absurd (omega (arith, ap (λ (v : View). v.held) t.head, t.fit.few, t.fit.rooms))
-
-  pub free-deep : row < h.held → 256 < h.depth → (s : Store) → Tied s h ws → Kept (freed_at s row slot) h ws
-  free-deep m n s t =
-      let l : row < length s.insts = omega (arith, ap (λ (v : View). v.held) t.head) in
-      absurd (omega (arith, ap (λ (v : View). v.depth) t.head, row_room s t.fit row slot l))
-
   pub free-done : (w end : List ℕ) (newest : ℕ) (free : Free) → end ≡ put_slot w slot 0 0 → w ≡ emptying ws (h.depth * row) slot h.depth → row < h.held
       → bits_of free.words ≡ set (bits_of h.free.words) slot 1 → newest ≡ cond (eqb h.newest slot) 256 h.newest → (s : Store) → Tied s h ws
       → Kept (freed_at s row slot) (record { depth = h.depth; room = h.room; held = h.held; last = h.last; newest = newest; free = free }) end

@@ -1,21 +1,25 @@
 -- What a set-up, a no-writers event and a freed slot leave is fit again; and two outcomes of one of them are equal.
-use Rattle.std.specs.Prelude.{◌≡◌, Bool, List, ℕ, ◌≤◌, ◌<◌, set, ltb, eqb}
+use Rattle.std.specs.Prelude.{◌≡◌, Bool, List, ℕ, ◌≤◌, ◌<◌, ltb, eqb}
 use Rattle.std.proofs.Math.Path.{refl}
 use Rattle.std.proofs.Common.{sym, ap, ◌∙◌, arith, length-set}
 use Rattle.std.proofs.Math.Bool.{true, false, cond}
 use Rattle.std.proofs.Math.Option.{Option}
 use borrow.Author.Tests.{ltb-true}
 use Rattle.std.proofs.Math.ListN.{length}
-use Rattle.lists.specs.Blocks.{put_at, length-put-in}
+use Rattle.std.specs.declared.result.Result.{Result}
+use Rattle.std.specs.declared.result.Result.TheVariants.{Ok, Err}
+use Rattle.refusals.specs.declared.Refusal.{Refusal}
+use Rattle.refusals.specs.NumberLaws.{same-refusal, number-above-0}
+use Rattle.lists.specs.Blocks.{length-put-in}
 use Rattle.slots.specs.FreeLaws.{Whole}
 use Rattle.sampleinfo.specs.Counts.{total}
 use Rattle.sampleinfo.specs.Lifecycle.{counts_of, no_writers_of}
 use Rattle.store.specs.Store.{Inst, Store, Event, place_of, inst_at, with_inst, with_meta, dying, emptied, freed}
 use Rattle.store.specs.Fit.{Fit, Deep, depth_of}
-use Rattle.index.specs.Memory.{index_of, View, shown, head_of, Tied, fresh_store}
+use Rattle.index.specs.Memory.{head_of, Tied, fresh_store}
 use Rattle.index.specs.Keeping.{all-put, fit-with, head-with, same_head}
 use Rattle.index.specs.declared.Cache.{Cache}
-use Rattle.change.specs.Change.{Left, Kept, freed_at}
+use Rattle.change.specs.Change.{code_of, Left, Kept, freed_at}
 use Rattle.change.specs.ChangeLaws.{length-emptied}
 
 -- ---- set-up
@@ -69,11 +73,17 @@ module _ (s : Store) (f : Fit s) (n : ℕ) where
   pub head-dying : head_of (dying s n).then ≡ head_of s
   head-dying = rw dying-then (fit_then (ltb at (length s.insts)) refl).1
 
-pub tied-dying : (s : Store) (h : Cache) (ws end : List ℕ) (n r : ℕ) → Tied s h ws → Left (dying s n) r end → Tied (dying s n).then h end
+pub tied-dying : (s : Store) (h : Cache) (ws end : List ℕ) (n : ℕ) (r : Result Unit Refusal) → Tied s h ws → Left (dying s n) r end → Tied (dying s n).then h end
 tied-dying s h ws end n r t l = record { fit = fit-dying s t.fit n; head = t.head ∙ sym (head-dying s t.fit n); words = l.words }
 
-pub one_left : (e : Event) (r q : ℕ) (v w : List ℕ) → Left e r v → Left e q w → (r ≡ q) × (v ≡ w)
-one_left e r q v w m n = (m.code ∙ sym n.code, m.words ∙ sym n.words)
+one-answer : (r q : Result Unit Refusal) → code_of r ≡ code_of q → r ≡ q
+one-answer (Ok u) (Ok v) e = refl
+one-answer (Ok u) (Err b) e = absurd (omega (arith, number-above-0 b))
+one-answer (Err a) (Ok v) e = absurd (omega (arith, number-above-0 a))
+one-answer (Err a) (Err b) e = ap Err (same-refusal a b e)
+
+pub one_left : (e : Event) (r q : Result Unit Refusal) (v w : List ℕ) → Left e r v → Left e q w → (r ≡ q) × (v ≡ w)
+one_left e r q v w m n = (one-answer r q (m.code ∙ sym n.code), m.words ∙ sym n.words)
 
 -- ---- a slot that becomes free
 

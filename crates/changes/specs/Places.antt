@@ -1,5 +1,5 @@
 -- How the entries of a topic cache lie in the lent words.
-use Rattle.std.specs.Prelude.{◌≡◌, cond, List, [], ◌∷◌, ◌++◌, map, ℕ, zero, suc, ◌+◌, ◌-◌, ◌*◌, ◌/◌, ◌%◌, ◌≤◌, ◌<◌, length, get_or, take, drop, set, replicate, leb}
+use Rattle.std.specs.Prelude.{◌≡◌, cond, List, [], ◌∷◌, ◌++◌, map, ℕ, zero, suc, ◌+◌, ◌*◌, ◌/◌, ◌%◌, ◌≤◌, ◌<◌, length, get_or, take, drop, replicate, leb}
 use Rattle.lists.specs.Blocks.{flat, filled}
 use Rattle.model.specs.Topic.{Entry, within, places}
 use Rattle.changes.specs.declared.Row.{Row}
@@ -69,34 +69,15 @@ pub record Copying (ws : List ℕ) (held start end : ℕ) (out after : List ℕ)
   pub copied : (es : List Entry) → Holds es held ws → 6 * length (within start end es) ≤ length out → after ≡ shown_in (within start end es) out
   pub nothing : end ≤ start → after ≡ out
 
--- ---- what the stores leave
-
--- `size` words from `by` on, moved to the front
-unfoldable pub moved_down : ℕ → ℕ → List ℕ → List ℕ
-moved_down by size ws = take size (drop by ws) ++ drop size ws
-
-unfoldable pub cleared : ℕ → ℕ → List ℕ → List ℕ
-cleared from to ws = take from ws ++ (replicate (to - from) 0 ++ drop to ws)
-
-abbrev pub put_row : List ℕ → ℕ → Row → List ℕ
-put_row ws b x = set (set (set (set (set (set ws b x.key) (b + 1) x.seq) (b + 2) x.low) (b + 3) x.high) (b + 4) x.handle) (b + 5) x.size
+-- ---- a result read back
 
 abbrev pub row_at : List ℕ → ℕ → Row
 row_at ws a = record { key = get_or ws a 0; seq = get_or ws (a + 1) 0; low = get_or ws (a + 2) 0; high = get_or ws (a + 3) 0; handle = get_or ws (a + 4) 0; size = get_or ws (a + 5) 0 }
-
--- the row at a put at b, where there is room
-unfoldable pub copied_row : List ℕ → ℕ → List ℕ → ℕ → List ℕ
-copied_row ws a out b = cond (leb (b + 6) (length out)) (put_row out b (row_at ws a)) out
-
--- ---- a result read back
 
 -- the n lowest bytes of a word, the lowest first
 unfoldable pub unpack : ℕ → ℕ → List ℕ
 unpack zero w = []
 unpack (suc n) w = (w % 256) ∷ unpack n (w / 256)
-
-unfoldable pub with_half : List ℕ → ℕ → ℕ → List ℕ
-with_half g at w = take at g ++ (unpack 8 w ++ drop (at + 8) g)
 
 unfoldable pub guid_of : ℕ → ℕ → List ℕ
 guid_of low high = unpack 8 low ++ unpack 8 high

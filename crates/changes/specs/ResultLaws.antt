@@ -1,57 +1,42 @@
 -- A result read back is the entry that was written there.
-use Rattle.std.specs.Prelude.{◌≡◌, refl, ℕ, zero, suc, ◌+◌, ◌-◌, ◌*◌, ◌/◌, ◌%◌, ◌≤◌, ◌<◌, take, drop, set}
-use Rattle.std.proofs.Common.{sym, ◌∙◌, add-zero, le-leb, lit<, length-set, take-append-drop, length-take, length-drop, length-append, drop_of_length-le, take-suc-set, drop-set-lt, take_at, take_all}
+use Rattle.std.specs.Prelude.{◌≡◌, refl, ℕ, zero, suc, ◌+◌, ◌*◌, ◌/◌, ◌%◌, ◌^◌, ◌≤◌, ◌<◌, take, drop}
+use Rattle.std.specs.Int.{w64, byte_at, bytes_low_first, to_le_bytes}
+use Rattle.std.specs.Simd.{first_chunks}
+use Rattle.std.proofs.Common.{sym, ◌∙◌, add-zero, not-suc-le-zero, le_of_suc-le-suc, le-leb, lit<, take-append-drop, length-take, length-drop, length-append, drop_of_length-le, take_at, drop_at, take_all}
+use Rattle.std.proofs.Math.Nat.{div-div-eq-div-mul, pow-succ'}
+use Rattle.std.proofs.Math.Seq.{get_or-take, get_or-drop, drop-drop}
+use borrow.Rule.Slice.PartMut.{put_mid}
 use Rattle.std.proofs.Math.Path.{ap}
-use mathlib.Core.List.{List, [], ◌∷◌, ◌++◌, map, append_assoc, append-nil}
+use mathlib.Core.List.{List, [], ◌∷◌, ◌++◌, map, append-nil}
 use native.Mathlib.Omega.{arith}
 use Rattle.std.proofs.lemmas.Bool.{lt-leb}
-use Rattle.std.proofs.Math.ListN.{length, get_or, length-map, get_or-append}
+use Rattle.std.proofs.Math.ListN.{length, get_or, replicate, length-map, get_or-append}
 use Rattle.lists.specs.Blocks.{flat, Even, even-map, flat-get, get-map}
 use Rattle.model.specs.Topic.{Entry}
 use Rattle.changes.specs.declared.Kept.{Kept}
-use Rattle.changes.specs.Places.{none, pack, half, Bytes, Writer, Written, Holds, line_of, row_of, row_at, shown_in, unpack, with_half, guid_of, entry_in, entries_in, kept_of, kept_at, nothing_kept}
+use Rattle.changes.specs.declared.Row.{Row}
+use Rattle.changes.specs.Places.{none, pack, half, Bytes, Writer, Written, Holds, line_of, row_of, row_at, shown_in, unpack, guid_of, entry_in, entries_in, kept_of, kept_at, nothing_kept}
 use Rattle.changes.specs.WriterLaws.{bytes_take, bytes_drop}
 use Rattle.changes.specs.WordLaws.{flat-long, row-at}
 
--- ---- the loop that writes eight bytes
-
--- what is written and what is left of the number make the whole
-pub record Laid (g : List ℕ) (at w : ℕ) (i rest : ℕ) (now : List ℕ) : Type 0 where
-  pub front : take (at + i) now ++ unpack (8 - i) rest ≡ take at g ++ unpack 8 w
-  pub back : drop (at + 8) now ≡ drop (at + 8) g
-  pub long : length now ≡ length g
+-- ---- a number written as eight bytes
 
 unpack-suc : (n w : ℕ) → unpack (suc n) w ≡ (w % 256) ∷ unpack n (w / 256)
 unfolding unpack
 unpack-suc n w = refl
 
-unpack-zero : (w : ℕ) → unpack 0 w ≡ []
+byte-on : (i n : ℕ) → byte_at (suc i) n ≡ byte_at i (n / 256)
+byte-on zero n = refl
+byte-on (suc i) n = rw (div-div-eq-div-mul n 256 (256 ^ suc i), pow-succ' 256 (suc i))
+
+bytes-on : (i k n : ℕ) → bytes_low_first (suc i) k n ≡ bytes_low_first i k (n / 256)
+bytes-on i zero n = refl
+bytes-on i (suc k) n = rw (byte-on i n, bytes-on (suc i) k n)
+
+unpack-low : (k n : ℕ) → bytes_low_first 0 k n ≡ unpack k n
 unfolding unpack
-unpack-zero w = refl
-
-pub laid-start : (g : List ℕ) (at w : ℕ) → Laid g at w 0 w g
-laid-start g at w = record { front = rw add-zero; back = refl; long = refl }
-
-pub laid-turn : (g : List ℕ) (at w i rest : ℕ) (now : List ℕ) → Laid g at w i rest now → i < 8 → at + 8 ≤ length g → Laid g at w (i + 1) (rest / 256) (set now (at + i) (rest % 256))
-laid-turn g at w i rest now l h k =
-    let e : at + (i + 1) ≡ suc (at + i) = omega arith in
-    let q : 8 - i ≡ suc (8 - (i + 1)) = omega arith in
-    let f : take (at + i) now ++ unpack (suc (8 - (i + 1))) rest ≡ take at g ++ unpack 8 w = rw (← q) l.front in
-    let low : at + i < length now = omega (arith, l.long) in
-    record {
-      front = rw (e, take-suc-set now (at + i) (rest % 256) low, append_assoc) (rw unpack-suc at f);
-      back = drop-set-lt (at + 8) now (at + i) (rest % 256) (omega arith) ∙ l.back;
-      long = length-set now (at + i) (rest % 256) ∙ l.long;
-    }
-
-pub laid_end : (g : List ℕ) (at w i rest : ℕ) (now : List ℕ) → Laid g at w i rest now → i ≤ 8 → 8 ≤ i → now ≡ with_half g at w
-unfolding with_half
-laid_end g at w i rest now l h k =
-    let e : i ≡ 8 = omega arith in
-    let z : ◌≡◌ {A = ℕ} (8 - 8) 0 = refl in
-    let m : take (at + 8) now ++ unpack (8 - 8) rest ≡ take at g ++ unpack 8 w = ap (λ (n : ℕ). take (at + n) now ++ unpack (8 - n) rest) (sym e) ∙ l.front in
-    let f : take (at + 8) now ≡ take at g ++ unpack 8 w = sym (append-nil (take (at + 8) now)) ∙ ap (λ (y : List ℕ). take (at + 8) now ++ y) (sym (unpack-zero rest)) ∙ m in
-    sym (take-append-drop (at + 8) now) ∙ rw (f, l.back) (append_assoc (take at g) (unpack 8 w) (drop (at + 8) g))
+unpack-low zero n = refl
+unpack-low (suc k) n = ap (λ (l : List ℕ). (n % 256) ∷ l) (bytes-on 0 k n ∙ unpack-low k (n / 256))
 
 -- ---- nothing is lost
 
@@ -60,13 +45,14 @@ unfolding unpack
 length-unpack zero w = refl
 length-unpack (suc n) w = ap suc (length-unpack n (w / 256))
 
--- sixteen bytes from two words
-pub guid-is : (g : List ℕ) (low high : ℕ) → length g ≡ 16 → with_half (with_half g 0 low) 8 high ≡ guid_of low high
-unfolding with_half guid_of
-guid-is g low high e =
-    let l : length (unpack 8 low) ≡ 8 = length-unpack 8 low in
-    let all : drop 16 (unpack 8 low ++ drop 8 g) ≡ [] = drop_of_length-le (unpack 8 low ++ drop 8 g) {i = 16} (simp (length-append, length-drop) (omega (arith, l))) in
-    rw (all, take_at (unpack 8 low) (drop 8 g) 8 l, append-nil)
+-- sixteen bytes from two words: the first eight written, then the last eight
+pub guid-is : (g : List ℕ) (low high : ℕ) (a b : List ℕ) → length g ≡ 8 → a ≡ to_le_bytes w64 low → b ≡ to_le_bytes w64 high → put_mid 8 8 (a ++ g) b ≡ guid_of low high
+unfolding guid_of
+guid-is g low high a b e p q =
+    let l : a ≡ unpack 8 low = p ∙ unpack-low 8 low in
+    let h : b ≡ unpack 8 high = q ∙ unpack-low 8 high in
+    let long : length a ≡ 8 = ap length l ∙ length-unpack 8 low in
+    rw (take_at a g 8 long, drop_at a g 8 long, drop_of_length-le g {i = 8} (omega (arith, e)), append-nil, l, h)
 
 unpack-pack : (l : List ℕ) → Bytes l → unpack (length l) (pack l) ≡ l
 unfolding unpack pack
@@ -88,14 +74,42 @@ guid-back w v =
 
 -- ---- the results
 
-pub kept-none : (out : List ℕ) (i : ℕ) (r : Kept) → length out / 6 ≤ i → r ≡ nothing_kept → r ≡ kept_at out i
-unfolding kept_at
-kept-none out i r h e = rw (le-leb (length out / 6) i h) e
+chunk-at : (out : List ℕ) (n i : ℕ) (d : List ℕ) → i < n → get_or (first_chunks 6 n out) i d ≡ take 6 (drop (6 * i) out)
+chunk-at out zero i d h = absurd (not-suc-le-zero h)
+chunk-at out (suc n) zero d h = refl
+chunk-at out (suc n) (suc i) d h =
+    let e : 6 + 6 * i ≡ 6 * suc i = omega arith in
+    chunk-at (drop 6 out) n i d (le_of_suc-le-suc h) ∙ rw (drop-drop, e)
 
-pub kept-some : (out : List ℕ) (i : ℕ) (g : List ℕ) (h s : ℕ) → i < length out / 6 → g ≡ guid_of (get_or out (6 * i + 2) 0) (get_or out (6 * i + 3) 0) → h ≡ get_or out (6 * i + 4) 0 % 4294967296 → s ≡ get_or out (6 * i + 5) 0 % 4294967296
-    → ◌≡◌ {A = Kept} (record { key = get_or out (6 * i) 0; change = record { writer_guid = g; sequence_number = get_or out (6 * i + 1) 0; handle = h; payload_size = s } }) (kept_at out i)
+pub row-taken : (out : List ℕ) (a : ℕ) → row_at (take 6 (drop a out)) 0 ≡ row_at out a
+row-taken out a = rw (word-taken 0 (lit< tt), word-taken 1 (lit< tt), word-taken 2 (lit< tt), word-taken 3 (lit< tt), word-taken 4 (lit< tt), word-taken 5 (lit< tt), add-zero)
+  where
+    word-taken : (j : ℕ) → j < 6 → get_or (take 6 (drop a out)) j 0 ≡ get_or out (a + j) 0
+    word-taken j h = get_or-take 6 (drop a out) j 0 h ∙ get_or-drop a out j 0
+
+zeros-are : (g : List ℕ) (n : ℕ) → length g ≡ n → ((i : ℕ) → i < n → get_or g i 0 ≡ 0) → g ≡ replicate n 0
+zeros-are [] zero e z = refl
+zeros-are [] (suc n) e z = absurd (omega (arith, e))
+zeros-are (x ∷ g) zero e z = absurd (omega (arith, e))
+zeros-are (x ∷ g) (suc n) e z =
+    let p : x ≡ 0 = z 0 (omega arith) in
+    rw (p, zeros-are g n (omega (arith, e)) (λ i h. z (suc i) (omega (arith, h))))
+
+pub kept-none : (out : List ℕ) (i : ℕ) (r : Kept) → length out / 6 ≤ i → r.key ≡ 0 → length r.change.writer_guid ≡ 16 → ((i : ℕ) → i < 16 → get_or r.change.writer_guid i 0 ≡ 0)
+    → r.change.sequence_number ≡ 0 → r.change.handle ≡ 0 → r.change.payload_size ≡ 0 → r ≡ kept_at out i
 unfolding kept_at
-kept-some out i g h s k p q u = rw (lt-leb (length out / 6) i k, p, q, u)
+kept-none out i r h k l z s a p = rw (le-leb (length out / 6) i h) (same r.key r.change.writer_guid r.change.sequence_number r.change.handle r.change.payload_size k (zeros-are _ 16 l z) s a p)
+  where
+    same : (k : ℕ) (g : List ℕ) (s a p : ℕ) → k ≡ 0 → g ≡ replicate 16 0 → s ≡ 0 → a ≡ 0 → p ≡ 0
+        → ◌≡◌ {A = Kept} (record { key = k; change = record { writer_guid = g; sequence_number = s; handle = a; payload_size = p } }) nothing_kept
+    same k g s a p e f q u v = rw (e, f, q, u, v)
+
+pub kept-some : (out row : List ℕ) (cs : List (List ℕ)) (i : ℕ) (x : Row) (r : Kept) → cs ≡ first_chunks 6 (length out / 6) out → i < length out / 6 → row ≡ get_or cs i row
+    → x ≡ row_at row 0 → r ≡ kept_of x → r ≡ kept_at out i
+unfolding kept_at
+kept-some out row cs i x r c h e p q =
+    let taken : row ≡ take 6 (drop (6 * i) out) = e ∙ ap (λ (l : List (List ℕ)). get_or l i row) c ∙ chunk-at out (length out / 6) i row h in
+    q ∙ ap kept_of (p ∙ ap (λ (l : List ℕ). row_at l 0) taken ∙ row-taken out (6 * i)) ∙ rw (lt-leb (length out / 6) i h)
 
 shown-long : (es : List Entry) (before : List ℕ) → 6 * length es ≤ length before → length (shown_in es before) ≡ length before
 unfolding shown_in

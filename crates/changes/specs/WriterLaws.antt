@@ -1,12 +1,14 @@
 -- Sixteen bytes in two words: what the code computes, and that nothing is lost.
 use Rattle.std.specs.Prelude.{◌≡◌, refl, Bool, true, false, ◌&&◌, List, [], ◌∷◌, ◌++◌, eqb, length, take, drop}
-use Rattle.std.proofs.Common.{sym, ap, ◌∙◌, pow-suc, not-suc-le-zero, le_of_suc-le-suc, eqb-true, eq-eqb, ne_eqb, lit<, take-append-drop, length-take, drop_of_length-le, drop-cons, take_all}
-use Prim.Native.Nat.{ℕ, zero, suc, ◌+◌, ◌-◌, ◌*◌, ◌^◌, ◌≤◌, ◌<◌}
+use Rattle.std.specs.Int.{w64, from_le_bytes}
+use Rattle.std.specs.Simd.{first_chunks}
+use Rattle.std.proofs.Common.{sym, ap, ◌∙◌, pow-suc, not-suc-le-zero, le_of_suc-le-suc, eqb-true, eq-eqb, ne_eqb, lit<, take-append-drop, length-take, drop_of_length-le, take_all}
+use Prim.Native.Nat.{ℕ, zero, suc, ◌+◌, ◌*◌, ◌/◌, ◌^◌, ◌≤◌, ◌<◌}
 use Rattle.std.proofs.Math.Nat.{one-le-pow}
 use native.Mathlib.Omega.{arith}
 use Rattle.std.proofs.lemmas.Bool.{eqb-false}
 use Rattle.std.proofs.Math.ListN.{get_or, length-drop}
-use Rattle.std.proofs.Math.Seq.{get_or-take, get_or-drop}
+use Rattle.std.proofs.Math.Seq.{get_or-drop}
 use Rattle.model.specs.Topic.{Entry, same_bytes}
 use Rattle.changes.specs.Places.{pack, half, Bytes, Writer, Written}
 
@@ -29,37 +31,36 @@ pack-cons : (b : ℕ) (bs : List ℕ) → pack (b ∷ bs) ≡ b + 256 * pack bs
 unfolding pack
 pack-cons b bs = refl
 
--- ---- the loop, from the last of the eight down
+-- ---- eight bytes read as a number
 
--- the number made of the bytes from the i-th on
-unfoldable pub Made : List ℕ → ℕ → ℕ → ℕ → Type 0
-Made g at i w = w ≡ pack (drop i (take 8 (drop at g)))
+pack-at : (k : ℕ) (l : List ℕ) → pack (drop k l) ≡ get_or l k 0 + 256 * pack (drop (suc k) l)
+unfolding pack
+pack-at zero [] = refl
+pack-at (suc k) [] = refl
+pack-at zero (x ∷ l) = refl
+pack-at (suc k) (x ∷ l) = pack-at k l
 
-module _ (g : List ℕ) (at : ℕ) (k : at ≤ 8) (w : Writer g) where
-  eight : length (take 8 (drop at g)) ≡ 8
-  eight = simp (length-take, length-drop) (omega (arith, w.sixteen))
+pub le-pack : (l : List ℕ) → length l ≡ 8 → from_le_bytes w64 l ≡ pack l
+unfolding pack
+le-pack l e =
+    let z : pack (drop 8 l) ≡ 0 = rw (drop_of_length-le l {i = 8} (omega (arith, e))) in
+    omega (arith, pack-at 0 l, pack-at 1 l, pack-at 2 l, pack-at 3 l, pack-at 4 l, pack-at 5 l, pack-at 6 l, pack-at 7 l, z)
 
-  pub made-start : Made g at 8 0
-  unfolding Made pack
-  made-start = rw (drop_of_length-le (take 8 (drop at g)) {i = 8} (omega (arith, eight)))
+-- the two halves of a writer, as `as_chunks` gives them
+module _ (g : List ℕ) (w : Writer g) (halves : List (List ℕ)) (e : halves ≡ first_chunks 8 (length g / 8) g) (d : List ℕ) where
+  eight : (at : ℕ) → at ≤ 8 → length (take 8 (drop at g)) ≡ 8
+  eight at k = simp (length-take, length-drop) (omega (arith, w.sixteen))
 
-  -- there is room for one more byte
-  pub made-room : (i v : ℕ) → Made g at i v → 0 < i → i ≤ 8 → v < 72057594037927936
-  unfolding Made
-  made-room i v m p h =
-      rw m (pack-small 7 (drop i (take 8 (drop at g))) (simp length-drop (omega (arith, eight))) (bytes_drop i _ (bytes_take 8 (drop at g) (bytes_drop at g w.bytes))))
+  two : halves ≡ take 8 g ∷ take 8 (drop 8 g) ∷ []
+  two = e ∙ rw w.sixteen
 
-  pub made-turn : (i v : ℕ) → Made g at i v → 0 < i → i ≤ 8 → Made g at (i - 1) (v * 256 + get_or g (at + (i - 1)) 0)
-  unfolding Made
-  made-turn i v m p h =
-      let e : suc (i - 1) ≡ i = omega arith in
-      let low : i - 1 < 8 = omega arith in
-      let at_i : get_or (take 8 (drop at g)) (i - 1) 0 ≡ get_or g (at + (i - 1)) 0 = get_or-take 8 (drop at g) (i - 1) 0 low ∙ get_or-drop at g (i - 1) 0 in
-      rw (drop-cons (take 8 (drop at g)) (i - 1) 0 (omega (arith, eight)), e, at_i, pack-cons, ← m) (omega arith)
+  pub low-half : (n : ℕ) → n ≡ from_le_bytes w64 (get_or halves 0 d) → n ≡ half 0 g
+  unfolding half
+  low-half n p = p ∙ rw two (le-pack (take 8 g) (eight 0 (omega arith)))
 
-pub made-end : (g : List ℕ) (at i v : ℕ) → Made g at i v → i ≤ 0 → v ≡ half at g
-unfolding Made half
-made-end g at i v m z = let e : i ≡ 0 = omega arith in m ∙ ap (λ (n : ℕ). pack (drop n (take 8 (drop at g)))) e
+  pub high-half : (n : ℕ) → n ≡ from_le_bytes w64 (get_or halves 1 d) → n ≡ half 8 g
+  unfolding half
+  high-half n p = p ∙ rw two (le-pack (take 8 (drop 8 g)) (eight 8 (omega arith)))
 
 -- ---- nothing is lost
 

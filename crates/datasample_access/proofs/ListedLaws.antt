@@ -1,6 +1,6 @@
 -- Reading and taking a list in the code is the model's: the last step of the proof.
 use Rattle.std.specs.Prelude.{◌≡◌, refl, Bool, true, false, ℕ, suc, ◌*◌, ◌/◌, ◌≤◌, ◌<◌, length, get_or, drop, replicate, ltb, leb}
-use Rattle.std.proofs.Common.{sym, ap, ◌∙◌, arith, ltb-true, ltb-false, le-leb}
+use Rattle.std.proofs.Common.{sym, ap, ◌∙◌, arith, ltb-true, ltb-false, le-leb, lt-ltb, le-ltb}
 use Rattle.std.proofs.Math.Option.{Option, some, none}
 use mathlib.Core.List.{List, [], ◌∷◌, ◌++◌}
 use Rattle.std.proofs.lemmas.Bool.{lt-leb}
@@ -37,24 +37,44 @@ use Rattle.infos.specs.FlatLaws.{put_all}
 use Rattle.samples.specs.Table.{peek_at}
 use Rattle.memory.specs.Lies.{Lies, tied, table-long}
 use Rattle.access.specs.Access.{run, named_first, number_of, or_short, list_refusal, slots_after, Refuses, Judges, last_counts, noted_all, infos_by, freed_each, settled}
-use Rattle.datasample_access.specs.declared.Listed.TheVariants as listed
-use Rattle.datasample_access.specs.declared.ListOutcome.{ListOutcome}
+use Rattle.std.specs.Option.{unwrap_or}
+use Rattle.std.specs.declared.option.Option as the_code
+use Rattle.std.specs.declared.result.Result.{Result}
+use Rattle.std.specs.declared.result.Result.TheVariants.{Ok, Err}
+use Rattle.std.proofs.Math.Decide.{dec_lt}
+use Rattle.std.proofs.Math.ListN.{get_or-eq_default}
+use Rattle.sampleinfo.specs.Samples.{empty_sample}
+use Rattle.refusals.specs.Numbers as refusal
+use Rattle.refusals.specs.NumberLaws.{number-above-0}
+use Rattle.refusals.specs.declared.Refusal.{Refusal}
+use Rattle.refusals.specs.declared.Refusal.TheVariants.{Malformed}
+use Rattle.change.specs.Change.{code_of}
+use Rattle.index.specs.Words.{slot_in}
+use Rattle.datasample_access.specs.declared.Listed.{Listed}
 use Rattle.datasample_access.specs.Listed.{Told, listing, Came, not_listed, Unfit, no_table, odd, listed_with, touched_all, ranking_of, Served}
 use Rattle.datasample_access.specs.SlotLaws.{run-front, Owned, RankedBy, infos-slots, last-total, noted-all, zero-at, viewed-same, freed-each, touched-take, touched-read}
 use Rattle.datasample_access.specs.FewLaws.{few-pairs}
 
 -- ---- what the code's steps come to
 
-pub serve-done : (h r : Cache) (take : Bool) (n : ℕ) (slots ws words : List ℕ) (t table : List Sample) (out after : List ℕ) (last : ℕ) (x : Sample) (mrsic : NotAliveGenerationCounts) (ranking : Ranking) (seen noted : List ℕ)
-    → after ≡ put_infos out 0 (infos_by ws t ranking (run n 0 slots)) → noted ≡ noted_all ws t seen (run n 0 slots) → seen ≡ replicate 32 0 → ranking ≡ ranking_of x mrsic → x ≡ peek_at t last
-    → mrsic ≡ last_counts ws slots n → table ≡ touched_all t take (run n 0 slots) → ((z : Store) → Tied z h ws → last ≡ latest_slot z)
+-- the record in the slot, the empty record where there is none
+peek-slot : (t : List Sample) (n : ℕ) → length t ≡ 256 → peek_at t (unwrap_or (slot_in n) 256) ≡ peek_at t n
+peek-slot t n l = go (dec_lt n 256)
+  where
+    go : Dec (n < 256) → peek_at t (unwrap_or (slot_in n) 256) ≡ peek_at t n
+    go (yes h) = rw (lt-ltb n 256 h)
+    go (no h) = rw (le-ltb n 256 (omega arith)) (get_or-eq_default t empty_sample {n = 256} (omega arith) ∙ sym (get_or-eq_default t empty_sample {n = n} (omega arith)))
+
+pub serve-done : (h r : Cache) (take : Bool) (n : ℕ) (slots ws words : List ℕ) (t table : List Sample) (out after : List ℕ) (last : the_code.Option ℕ) (x : Sample) (mrsic : NotAliveGenerationCounts) (ranking : Ranking) (seen noted : List ℕ)
+    → after ≡ put_infos out 0 (infos_by ws t ranking (run n 0 slots)) → noted ≡ noted_all ws t seen (run n 0 slots) → seen ≡ replicate 32 0 → ranking ≡ ranking_of x mrsic → x ≡ peek_at t (unwrap_or last 256)
+    → mrsic ≡ last_counts ws slots n → table ≡ touched_all t take (run n 0 slots) → ((z : Store) → Tied z h ws → last ≡ slot_in (latest_slot z)) → length t ≡ 256
     → ((z : Store) → Tied z h ws → Tied (settled z take (run n 0 slots) noted) r words)
     → (s : Store) → Tied s h ws → Served s take n slots ws t out r words table after
-serve-done h r take n slots ws words t table out after last x mrsic ranking seen noted ea en es em ex ei et el er s k = record {
+serve-done h r take n slots ws words t table out after last x mrsic ranking seen noted ea en es em ex ei et el long er s k = record {
   tied = rw (← es, ← en) (er s k);
   touched = et;
   infos = ea ∙ ap (λ (q : Ranking). put_infos out 0 (infos_by ws t q (run n 0 slots)))
-      (em ∙ ap (λ (y : Sample). ranking_of y mrsic) (ex ∙ ap (peek_at t) (el s k)) ∙ ap (ranking_of (peek_at t (latest_slot s))) ei);
+      (em ∙ ap (λ (y : Sample). ranking_of y mrsic) (ex ∙ ap (λ (o : the_code.Option ℕ). peek_at t (unwrap_or o 256)) (el s k) ∙ peek-slot t (latest_slot s) long) ∙ ap (ranking_of (peek_at t (latest_slot s))) ei);
 }
 
 module _ (m : Model) (g : Good m) where
@@ -251,17 +271,17 @@ module _ (m : Model) (g : Good m) (h : Cache) (ws : List ℕ) (t : List Sample) 
     length-made : length (infos_for m ps) ≡ n
     length-made = ap length (infos-is m g ps live) ∙ length-infos by_the_rust s (table_of m) ks ks ∙ sym length-ks
 
-    told : (out after : List ℕ) → after ≡ words_of_infos (infos_for m ps) ++ drop (27 * length (infos_for m ps)) out → Told (access take m ps).answer (listed.Infos n) out after
+    told : (r : Cache) (out after : List ℕ) → after ≡ words_of_infos (infos_for m ps) ++ drop (27 * length (infos_for m ps)) out → Told (access take m ps).answer (Ok (listed_with r n)) out after
     unfolding access infos_then
-    told out after q = (ap (λ (x : ℕ). listed.Infos x) (sym length-made), q)
+    told r out after q = (sym length-made, q)
 
     came-done : (r : Cache) (words : List ℕ) (table : List Sample) (out after : List ℕ) → n ≤ places_in out → Served s take n (ks ++ rest) ws t out r words table after
-        → Came (access take m ps) (listed_with r n) words table out after
+        → Came (access take m ps) h (Ok (listed_with r n)) words table out after
     came-done r words table out after room v =
         let run_is : run n 0 (ks ++ rest) ≡ ks = run-front n ks rest length-ks (omega arith) in
         let k : Tied (settled s take ks (noted_all ws t (replicate 32 0) ks)) r words = rw run_is at v.tied in
         record {
-          answer = told out after (v.infos ∙ ap (λ (x : List ℕ). put_infos out 0 (infos_by ws t ranking x)) run_is ∙ ap (put_infos out 0) infos-made ∙ put_all out (infos_for m ps) (omega (arith, length-made)));
+          answer = told r out after (v.infos ∙ ap (λ (x : List ℕ). put_infos out 0 (infos_by ws t ranking x)) run_is ∙ ap (put_infos out 0) infos-made ∙ put_all out (infos_for m ps) (omega (arith, length-made)));
           lies = record {
             head = k.head ∙ ap head_of store_is;
             words = k.words ∙ ap index_of store_is;
@@ -271,37 +291,38 @@ module _ (m : Model) (g : Good m) (h : Cache) (ws : List ℕ) (t : List Sample) 
 
 -- ---- as the code meets it
 
-module _ (h : Cache) (ws : List ℕ) (t : List Sample) (list out : List ℕ) (take : Bool) (room k : ℕ) (slots after : List ℕ)
+module _ (h : Cache) (ws : List ℕ) (t : List Sample) (list out : List ℕ) (take : Bool) (room : ℕ) (k : Result Unit Refusal) (slots after : List ℕ)
     (f : Judges h ws list room k slots after) (long : slots ≡ replicate 256 0) (q : room ≡ places_in out) where
   full : length slots ≡ 256
   full = ap length long ∙ length-replicate {A = ℕ} 256 0
 
-  pub came-declined : (k ≡ 0 → ⊥) → (r : ListOutcome) → r ≡ not_listed h k → (m : Model) → Good m → Lies m h ws t → Came (listing m take list (places_in out)) r ws t out out
-  came-declined n r e m g l =
-      let x : k ≡ list_refusal (store_of m) list room = (f.tied (store_of m) full (tied m h ws t g l)).number in
-      let st : listing m take list room ≡ refuse m (list_refusal (store_of m) list room) = (verdict m g take list room slots).0 (λ z. n (x ∙ z)) in
-      rw (e, ← q, st, ← x) (record { answer = (refl, refl); lies = l })
+  pub came-declined : (e : Refusal) → k ≡ Err e → (m : Model) → Good m → Lies m h ws t → Came (listing m take list (places_in out)) h (Err e) ws t out out
+  came-declined e p m g l =
+      let x : refusal.number_of e ≡ list_refusal (store_of m) list room = sym (ap code_of p) ∙ (f.tied (store_of m) full (tied m h ws t g l)).number in
+      let st : listing m take list room ≡ refuse m (list_refusal (store_of m) list room) = (verdict m g take list room slots).0 (λ z. omega (arith, number-above-0 e, x, z)) in
+      rw (← q, st, ← x) (record { answer = (refl, refl); lies = l })
 
-  pub came-listed : k ≡ 0 → (head : Cache) (words : List ℕ) (table : List Sample) (end : List ℕ) → ((z : Store) → Tied z h ws → Served z take (length list / 2) after ws t out head words table end)
-      → (r : ListOutcome) → r ≡ listed_with head (length list / 2) → (m : Model) → Good m → Lies m h ws t → Came (listing m take list (places_in out)) r words table out end
-  came-listed z head words table end v r e m g l =
+  pub came-listed : (x : Unit {0}) → k ≡ Ok x → (head : Cache) (words : List ℕ) (table : List Sample) (end : List ℕ) → ((z : Store) → Tied z h ws → Served z take (length list / 2) after ws t out head words table end)
+      → (m : Model) → Good m → Lies m h ws t → Came (listing m take list (places_in out)) h (Ok (listed_with head (length list / 2))) words table out end
+  came-listed x p head words table end v m g l =
       let c : Refuses (store_of m) list room k slots after = f.tied (store_of m) full (tied m h ws t g l) in
-      let a : Accepts m g take list room slots = (verdict m g take list room slots).1 (sym c.number ∙ z) in
+      let a : Accepts m g take list room slots = (verdict m g take list room slots).1 (sym c.number ∙ ap code_of p) in
       let sv : Served (store_of m) take (length list / 2) (named_first (store_of m) (pairs_of list) slots) ws t out head words table end = rw (c.names ∙ a.names) at (v (store_of m) (tied m h ws t g l)) in
-      rw (e, ← q, a.done)
+      rw (← q, a.done)
       (came-done m g h ws t l take (pairs_of list) a.fine-list (length list / 2) (sym (length_pairs list)) a.few (drop (length (pairs_of list)) slots) head words table out end
       (omega (arith, a.enough, length_pairs list)) sv)
 
-pub came-no-table : (h : Cache) (ws : List ℕ) (t : List Sample) (list out : List ℕ) (take : Bool) (r : ListOutcome) → (length t ≡ 256 → ⊥) → (m : Model) → Good m → Lies m h ws t
-    → Came (listing m take list (places_in out)) r ws t out out
+pub came-no-table : (h : Cache) (ws : List ℕ) (t : List Sample) (list out : List ℕ) (take : Bool) (r : Result Listed Refusal) → (length t ≡ 256 → ⊥) → (m : Model) → Good m → Lies m h ws t
+    → Came (listing m take list (places_in out)) h r ws t out out
 came-no-table h ws t list out take r n m g l = absurd (n (table-long m h ws t l))
 
 -- refusal 1 on any memory
-pub odd-declined : (h : Cache) (ws : List ℕ) (t : List Sample) (list out : List ℕ) (room k : ℕ) (slots after : List ℕ) (r : ListOutcome) → Judges h ws list room k slots after → r ≡ not_listed h k
-    → length t ≡ 256 → Unfit t list → (r ≡ not_listed h 1) × (ws ≡ ws) × (t ≡ t) × (out ≡ out)
-odd-declined h ws t list out room k slots after r f e long (no_table n) = absurd (n long)
-odd-declined h ws t list out room k slots after r f e long (odd w) = (e ∙ ap (not_listed h) (f.odd w), refl, refl, refl)
+pub odd-declined : (h : Cache) (ws : List ℕ) (t : List Sample) (list out : List ℕ) (room : ℕ) (k : Result Unit Refusal) (slots after : List ℕ) (e : Refusal) → Judges h ws list room k slots after → k ≡ Err e
+    → length t ≡ 256 → Unfit t list → (Err e ≡ not_listed) × (ws ≡ ws) × (t ≡ t) × (out ≡ out)
+odd-declined h ws t list out room k slots after e f p long (no_table n) = absurd (n long)
+odd-declined h ws t list out room k slots after e f p long (odd w) = let z : ◌≡◌ {A = Result Unit Refusal} (Err e) (Err Malformed) = sym p ∙ f.odd w in let x : e ≡ Malformed = cc in (ap Err x, refl, refl, refl)
 
-pub odd-not-served : (h : Cache) (ws : List ℕ) (t : List Sample) (list : List ℕ) (room k : ℕ) (slots after : List ℕ) (A : Type 0) → Judges h ws list room k slots after → k ≡ 0 → length t ≡ 256 → Unfit t list → A
-odd-not-served h ws t list room k slots after A f z long (no_table n) = absurd (n long)
-odd-not-served h ws t list room k slots after A f z long (odd w) = absurd (omega (arith, f.odd w, z))
+pub odd-not-served : (h : Cache) (ws : List ℕ) (t : List Sample) (list : List ℕ) (room : ℕ) (k : Result Unit Refusal) (slots after : List ℕ) (A : Type 0) (x : Unit {0}) → Judges h ws list room k slots after → k ≡ Ok x
+    → length t ≡ 256 → Unfit t list → A
+odd-not-served h ws t list room k slots after A x f z long (no_table n) = absurd (n long)
+odd-not-served h ws t list room k slots after A x f z long (odd w) = let y : ◌≡◌ {A = Result Unit Refusal} (Ok x) (Err Malformed) = sym z ∙ f.odd w in absurd (cc)

@@ -1,58 +1,52 @@
 -- What a set-up, a no-writers event and a question for the next key answer and leave, against the model's step.
-use Rattle.std.specs.Prelude.{◌≡◌, Bool, true, false, ◌&&◌, ◌||◌, cond, List, ℕ, ◌*◌, leb, eqb, ℤ, pos, negsuc, length}
+use Rattle.std.specs.Prelude.{◌≡◌, true, false, cond, List, ℕ, ℤ, pos, negsuc, eqb, length}
 use Rattle.std.proofs.Math.Option.{some, none}
+use Rattle.std.specs.declared.option.Option.{Option}
+use Rattle.std.specs.declared.option.Option.TheVariants.{None, Some}
+use Rattle.std.specs.declared.result.Result.{Result}
+use Rattle.std.specs.declared.result.Result.TheVariants.{Ok, Err}
+use Rattle.refusals.specs.Numbers.{number_of}
+use Rattle.refusals.specs.declared.Refusal.{Refusal}
+use Rattle.refusals.specs.declared.Refusal.TheVariants as refusal
 use Rattle.sampleinfo.specs.declared.Sample.{Sample}
-use Rattle.model.specs.Model.{Answer, refused, ok, next, Step, SetUp, counts_kept, counts_none, within, keep_of, fresh}
-use Rattle.store.specs.Store.{Store}
-use Rattle.index.specs.Memory.{shown, head_of, index_of}
+use Rattle.model.specs.Model.{Answer, refused, ok, next, Step, SetUp, within, keep_of, fresh}
+use Rattle.store.specs.Fit.{depth_of}
 use Rattle.index.specs.declared.Cache.{Cache}
-use Rattle.lookup.specs.declared.Next.{Next}
-use Rattle.lookup.specs.declared.Next.TheVariants as next'
 use Rattle.memory.specs.Lies.{Lies}
-use Rattle.datasample_cache.specs.declared.Reply.{Reply}
-use Rattle.datasample_cache.specs.declared.Reply.TheVariants as reply
-use Rattle.datasample_cache.specs.declared.SetUpOutcome.{SetUpOutcome}
 
 -- document 01's number of each answer
-abbrev pub reply_as : Reply → Answer
-reply_as reply.Ok = ok
-reply_as (reply.Refused n) = refused n
+abbrev pub reply_as : {A : Type 0} → Result A Refusal → Answer
+reply_as (Ok x) = ok
+reply_as (Err e) = refused (number_of e)
 
-abbrev pub next_as : Next → Answer
-next_as (next'.Key k) = next (some k)
-next_as next'.Nothing = next none
+abbrev pub next_as : Option ℕ → Answer
+next_as (Some k) = next (some k)
+next_as None = next none
 
 -- ---- set-up
 
 abbrev pub set_up_of : ℕ → ℤ → ℕ → SetUp
 set_up_of mode keep i = record { mode = mode; keep = keep; instances = i }
 
--- the keep field as a depth: below 0 it is out of bounds
-abbrev pub depth_for : ℤ → ℕ
-depth_for (pos d) = d
-depth_for (negsuc d) = 257
+-- the keep field as a count
+abbrev pub count_in : ℤ → Option ℕ
+count_in (pos d) = Some d
+count_in (negsuc d) = None
 
 abbrev pub kept_in : ℕ → ℕ → ℕ
 kept_in mode depth = cond (eqb mode 3) 0 (cond (eqb mode 4) 1 depth)
 
-unfoldable pub within_by : ℕ → ℕ → ℕ → Bool
-within_by mode depth i = (leb 1 i && leb i 32) && ((counts_kept mode && (leb 1 depth && leb (i * depth) 256)) || (counts_none mode && eqb depth 0))
+-- the depth of the windows, 0 for no keep count; none where the set-up is out of its bounds
+abbrev pub depth_in : SetUp → Option ℕ
+depth_in u = cond (within u) (Some (depth_of (keep_of u))) None
 
-abbrev pub not_set_up : Cache → ℕ → SetUpOutcome
-not_set_up h n = record { head = h; answer = reply.Refused n }
-
-pub record Begun (s : Store) (r : SetUpOutcome) (ws : List ℕ) : Type 0 where
-  pub answer : r.answer ≡ reply.Ok
-  pub head : shown r.head ≡ head_of s
-  pub words : ws ≡ index_of s
-
--- "An accepted set-up makes the cache fresh"; a refused one leaves header, index and table as found
-pub record SetsUp (u : SetUp) (h : Cache) (r : SetUpOutcome) (ws after : List ℕ) (t then : List Sample) : Type 0 where
-  pub accepted : length t ≡ 256 → within u ≡ true → (r.answer ≡ reply.Ok) × Lies (fresh (keep_of u) u.instances) r.head after then
-  pub out-of-bounds : length t ≡ 256 → within u ≡ false → (r ≡ not_set_up h 2) × (after ≡ ws) × (then ≡ t)
-  pub no_table : (length t ≡ 256 → ⊥) → (r ≡ not_set_up h 1) × (after ≡ ws) × (then ≡ t)
+-- "An accepted set-up makes the cache fresh"; a refused one leaves index and table as found, and hands out no header
+pub record SetsUp (u : SetUp) (r : Result Cache Refusal) (ws after : List ℕ) (t then : List Sample) : Type 0 where
+  pub accepted : length t ≡ 256 → within u ≡ true → (h : Cache) × ((r ≡ Ok h) × Lies (fresh (keep_of u) u.instances) h after then)
+  pub out-of-bounds : length t ≡ 256 → within u ≡ false → (r ≡ Err refusal.OutOfBounds) × (after ≡ ws) × (then ≡ t)
+  pub no_table : (length t ≡ 256 → ⊥) → (r ≡ Err refusal.Malformed) × (after ≡ ws) × (then ≡ t)
 
 -- ---- the no-writers event: the header and the table stay
-pub record Dies (st : Step) (r : Reply) (h : Cache) (ws : List ℕ) (t : List Sample) : Type 0 where
+pub record Dies (st : Step) (r : Result Unit Refusal) (h : Cache) (ws : List ℕ) (t : List Sample) : Type 0 where
   pub answer : reply_as r ≡ st.answer
   pub lies : Lies st.then h ws t

@@ -1,19 +1,21 @@
 -- The calls: what each return answers and leaves is what the model's step answers and leaves.
 use Rattle.std.proofs.Math.Path.{◌≡◌, refl, ap}
 use Rattle.std.proofs.Common.{sym, ◌∙◌, subst, true≢false, arith, length-append}
-use Rattle.std.specs.Prelude.{Bool, ◌||◌, ℕ, ◌-◌, ◌*◌, ◌/◌, ◌%◌, ◌≤◌, ◌<◌, eqb, drop}
+use Rattle.std.specs.Prelude.{Some, None, Bool, ◌||◌, ℕ, ◌-◌, ◌*◌, ◌/◌, ◌%◌, ◌≤◌, ◌<◌, eqb, drop}
 use Rattle.std.proofs.Math.Bool.{true, false, cond}
 use mathlib.Core.List.{List, [], ◌∷◌, ◌++◌}
 use Rattle.std.proofs.Math.Option.{some, none}
 use borrow.Author.Tests.{lt-ltb, le-leb, lt-leb, leb-false}
 use Rattle.std.proofs.Math.Dec.{leb}
 use Rattle.std.proofs.Math.ListN.{length, length-drop}
-use Rattle.keys.specs.Keys.{key_of}
-use Rattle.keys.specs.declared.Last.{Last}
-use Rattle.keys.specs.declared.Last.TheVariants as last
-use Rattle.keys.specs.declared.Issued.{Issued}
-use Rattle.keys.specs.declared.Issued.TheVariants as issued
-use Rattle.model.specs.Topic.{Topic, Entry, Limits, update, add, remove_before, range, refused, key, found, step, places, limits_fit, raised, wider, removal, collects, collect_every, collected_for, adding, holds_pair, within}
+use Rattle.std.specs.declared.result.Result.{Result}
+use Rattle.std.specs.declared.result.Result.TheVariants.{Ok, Err}
+use Rattle.refusals.specs.declared.Refusal.{Refusal}
+use Rattle.refusals.specs.declared.Refusal.TheVariants as refusal
+use Rattle.refusals.specs.Numbers.{number_of}
+use Rattle.refusals.specs.NumberLaws.{same-refusal}
+use Rattle.keys.specs.Keys.{Last, Issued, key_of}
+use Rattle.model.specs.Topic.{Topic, Entry, Limits, update, add, remove_before, range, refused, found, step, places, limits_fit, raised, wider, removal, collects, collect_every, collected_for, adding, holds_pair, within}
 use Rattle.sampleinfo.specs.Formed.{seq_fits}
 use Rattle.model.proofs.Topic.{must-le}
 use Rattle.changes.specs.Places.{Holds, Writer, Written, words_of, shown_in, entries_in, entry_of, Ranging, Copying}
@@ -21,15 +23,10 @@ use Rattle.changes.specs.LookLaws.{written-within}
 use Rattle.changes.specs.ResultLaws.{entries-back}
 use Rattle.changes.specs.declared.CacheChange.{CacheChange}
 use Rattle.dds_cache.specs.declared.KeepLimits.{KeepLimits}
-use Rattle.dds_cache.specs.declared.Limited.{Limited}
-use Rattle.dds_cache.specs.declared.Limited.TheVariants as limited
 use Rattle.dds_cache.specs.declared.TopicCache.{TopicCache}
-use Rattle.dds_cache.specs.declared.Created.TheVariants as created
-use Rattle.dds_cache.specs.declared.Update.TheVariants as up
 use Rattle.dds_cache.specs.declared.Added.TheVariants as added
 use Rattle.dds_cache.specs.declared.Outcome.{Outcome}
-use Rattle.dds_cache.specs.declared.Found.TheVariants as got
-use Rattle.dds_cache.specs.Header.{limits_of, limited_of, new_limits, limits_number, Head, shown, head_of, Tied, Fit, topic_of, made_of, cleared_if, Creating, Raised, Came, Removed, Shown, Updates, Adds, Removes, Ranges, Refusing, Inner, added_of, change_of, drops_for, without, behind, inserted, Internal}
+use Rattle.dds_cache.specs.Header.{limits_of, limited_of, limited_number, new_limits, limits_number, Head, shown, head_of, Tied, Fit, topic_of, made_of, cleared_if, Limiting, Creating, Raised, Came, Removed, Shown, Updates, Adds, Removes, Ranges, Refusing, Inner, change_of, drops_for, without, behind, inserted, Internal}
 
 -- ---- the header and its topic cache
 
@@ -78,28 +75,36 @@ pub limits-number : (c : Topic) (l : Limits) → limits_fit l ≡ false → (ste
 unfolding step
 limits-number c l f = rw f
 
-module _ (l : Limits) (r : Limited) (e : limited_of r ≡ new_limits l) where
-  pub made_none : r ≡ limited.OutOfBounds → (ws : List ℕ) → Creating l created.OutOfBounds ws ws
-  unfolding made_of cleared_if
-  made_none o ws = let f : limits_fit l ≡ false = fits-no l (ap limited_of (sym o) ∙ e) in record { number = rw f; head = rw f; words = rw f }
+module _ (l : Limits) (r : Result KeepLimits Refusal) (e : Limiting l r) where
+  refused-number : (x : Refusal) → r ≡ Err x → (limits_fit l ≡ false) × (number_of x ≡ 2)
+  refused-number x o =
+      let f : limits_fit l ≡ false = fits-no l (ap limited_of (sym o) ∙ e.limits) in
+      (f, ap limited_number (sym o) ∙ e.number ∙ rw f)
 
-  pub made_some : (m : KeepLimits) → r ≡ limited.Limits m → (k : Last) (ws after : List ℕ) → k ≡ last.Key 0 → after ≡ words_of []
-      → Creating l (created.Cache (record { limits = m; last_added_instant = k; held = 0 })) ws after
+  given-limits : (m : KeepLimits) → r ≡ Ok m → (limits_fit l ≡ true) × (limits_of m ≡ raised l)
+  given-limits m o = fits-yes l (limits_of m) (ap limited_of (sym o) ∙ e.limits)
+
+  pub made_none : (x : Refusal) → r ≡ Err x → (ws : List ℕ) → Creating l (Err x) ws ws
+  unfolding made_of cleared_if
+  made_none x o ws = let f : (limits_fit l ≡ false) × (number_of x ≡ 2) = refused-number x o in record { number = rw (f.0, f.1); head = rw f.0; words = rw f.0 }
+
+  pub made_some : (m : KeepLimits) → r ≡ Ok m → (k : Last) (ws after : List ℕ) → k ≡ Some 0 → after ≡ words_of []
+      → Creating l (Ok (record { limits = m; last_added_instant = k; held = 0 })) ws after
   unfolding made_of cleared_if
   made_some m o k ws after p q =
-      let f : (limits_fit l ≡ true) × (limits_of m ≡ raised l) = fits-yes l (limits_of m) (ap limited_of (sym o) ∙ e) in
+      let f : (limits_fit l ≡ true) × (limits_of m ≡ raised l) = given-limits m o in
       record { number = rw f.0; head = rw (f.0, f.1, p); words = rw (f.0, q) }
 
   module _ (c : Topic) (h : TopicCache) (t : shown h ≡ head_of c) where
-    pub raised-none : r ≡ limited.OutOfBounds → Raised (step c (update l)) (record { cache = h; answer = up.OutOfBounds })
+    raised-none : (x : Refusal) → r ≡ Err x → Raised (step c (update l)) h (Err x)
     unfolding step
-    raised-none o = rw (fits-no l (ap limited_of (sym o) ∙ e)) (record { answer = refl; head = t })
+    raised-none x o = let f : (limits_fit l ≡ false) × (number_of x ≡ 2) = refused-number x o in rw f.0 (record { answer = rw f.1; head = t })
 
-    pub raised-some : (m k : KeepLimits) → r ≡ limited.Limits m → limits_of k ≡ wider (limits_of h.limits) (limits_of m)
-        → Raised (step c (update l)) (record { cache = record { limits = k; last_added_instant = h.last_added_instant; held = h.held }; answer = up.Raised })
+    raised-some : (m k : KeepLimits) → r ≡ Ok m → limits_of k ≡ wider (limits_of h.limits) (limits_of m)
+        → Raised (step c (update l)) h (Ok (record { limits = k; last_added_instant = h.last_added_instant; held = h.held }))
     unfolding step
     raised-some m k o w =
-        let f : (limits_fit l ≡ true) × (limits_of m ≡ raised l) = fits-yes l (limits_of m) (ap limited_of (sym o) ∙ e) in
+        let f : (limits_fit l ≡ true) × (limits_of m ≡ raised l) = given-limits m o in
         rw f.0 (record { answer = refl; head = go (limits_of k) (limits_of h.limits) c.limits (limits_of m) (raised l) h.last_added_instant c.last h.held (length c.entries) w (limits-is c h t) f.1 (last-is c h t) (held-is c h t) })
       where
         go : (k l n m q : Limits) (j i : Last) (a b : ℕ) → k ≡ wider l m → l ≡ n → m ≡ q → j ≡ i → a ≡ b
@@ -107,13 +112,16 @@ module _ (l : Limits) (r : Limited) (e : limited_of r ≡ new_limits l) where
         go k l n m q j i a b u v w x y = rw (u, v, w, x, y)
 
   -- on any header
-  pub updates-none : r ≡ limited.OutOfBounds → (h : TopicCache) → Updates l h (record { cache = h; answer = up.OutOfBounds })
-  updates-none o h = record { out-of-bounds = λ f. refl; stepped = λ c t. raised-none c h t o }
+  pub updates-none : (x : Refusal) → r ≡ Err x → (h : TopicCache) → Updates l h (Err x)
+  updates-none x o h = record {
+    out-of-bounds = λ f. ap Err (same-refusal x refusal.OutOfBounds (refused-number x o).1);
+    stepped = λ c t. raised-none c h t x o;
+  }
 
-  pub updates-some : (m k : KeepLimits) → r ≡ limited.Limits m → (h : TopicCache) → limits_of k ≡ wider (limits_of h.limits) (limits_of m)
-      → Updates l h (record { cache = record { limits = k; last_added_instant = h.last_added_instant; held = h.held }; answer = up.Raised })
+  pub updates-some : (m k : KeepLimits) → r ≡ Ok m → (h : TopicCache) → limits_of k ≡ wider (limits_of h.limits) (limits_of m)
+      → Updates l h (Ok (record { limits = k; last_added_instant = h.last_added_instant; held = h.held }))
   updates-some m k o h w = record {
-    out-of-bounds = λ f. absurd (true≢false (sym (fits-yes l (limits_of m) (ap limited_of (sym o) ∙ e)).0 ∙ f));
+    out-of-bounds = λ f. absurd (true≢false (sym (given-limits m o).0 ∙ f));
     stepped = λ c t. raised-some c h t m k o w;
   }
 
@@ -154,7 +162,7 @@ removes h ws t n r after count q w = record {
 
 -- ---- adding
 
-pub inserted-is : (h k : TopicCache) (n i a : ℕ) → k ≡ without h n → a ≡ behind k.held → ◌≡◌ {A = TopicCache} (record { limits = k.limits; last_added_instant = last.Key i; held = a }) (inserted h n i)
+pub inserted-is : (h k : TopicCache) (n i a : ℕ) → k ≡ without h n → a ≡ behind k.held → ◌≡◌ {A = TopicCache} (record { limits = k.limits; last_added_instant = Some i; held = a }) (inserted h n i)
 inserted-is h k n i a p q = rw (q, p)
 
 pub inserted-words : (h k : TopicCache) (n i : ℕ) (x : CacheChange) (ws mid after : List ℕ) → k ≡ without h n → ((es : List Entry) → Holds es h.held ws → mid ≡ words_of (drop n es))
@@ -185,79 +193,82 @@ module _ (h : TopicCache) (es : List Entry) (t : ℕ) (x : CacheChange) (n : ℕ
 
   module _ (ws : List ℕ) (o : Holds es h.held ws) where
     came_held : holds_pair x.writer_guid x.sequence_number (drop n es) ≡ true → (k : TopicCache) (after : List ℕ) → k ≡ without h n → after ≡ words_of (drop n es)
-        → Came (adding (topic_of h es) (collected_for (topic_of h es) (change_of t x)) (change_of t x)) (record { cache = k; answer = added.HeldAlready }) after
+        → Came (adding (topic_of h es) (collected_for (topic_of h es) (change_of t x)) (change_of t x)) h (Ok (record { cache = k; answer = added.HeldAlready })) after
     came_held e k after q w = rw (collected-is, e) (record { answer = refl; tied = record { head = ap shown q ∙ shown-without h es n o.number; words = w } })
 
     module _ (e : holds_pair x.writer_guid x.sequence_number (drop n es) ≡ false) where
-      came-six : key_of h.last_added_instant t ≡ issued.Refused
-          → Came (adding (topic_of h es) (collected_for (topic_of h es) (change_of t x)) (change_of t x)) (record { cache = h; answer = added.NoLaterKey }) ws
+      came-six : key_of h.last_added_instant t ≡ None
+          → Came (adding (topic_of h es) (collected_for (topic_of h es) (change_of t x)) (change_of t x)) h (Err refusal.NoLaterKey) ws
       came-six k = rw (collected-is, e, k) (record { answer = refl; tied = record { head = shown-all h es o.number; words = o.words } })
 
-      came-key : (k : ℕ) → key_of h.last_added_instant t ≡ issued.Key k → (r : Outcome) (after : List ℕ) → r.answer ≡ added.Key k → r.cache ≡ inserted h n k → after ≡ words_of (drop n es ++ (entry_of x k ∷ [])) → length (drop n es) < places
-          → Came (adding (topic_of h es) (collected_for (topic_of h es) (change_of t x)) (change_of t x)) r after
-      came-key k i r after a q w f =
+      came-key : (k : ℕ) → key_of h.last_added_instant t ≡ Some k → (g : TopicCache) (after : List ℕ) → g ≡ inserted h n k → after ≡ words_of (drop n es ++ (entry_of x k ∷ [])) → length (drop n es) < places
+          → Came (adding (topic_of h es) (collected_for (topic_of h es) (change_of t x)) (change_of t x)) h (Ok (record { cache = g; answer = added.Key k })) after
+      came-key k i g after q w f =
           let long : behind (h.held - n) ≡ length (drop n es ++ (entry_of x k ∷ [])) = rw (o.number, ← (length-drop n es), lt-ltb (length (drop n es)) places f) (sym (length-append (drop n es) (entry_of x k ∷ []))) in
           rw (collected-is, e, i)
           (record {
-            answer = ap added_of a;
-            tied = record { head = ap shown q ∙ ap (λ (y : ℕ). record { limits = limits_of h.limits; last = last.Key k; held = y }) long; words = w };
+            answer = refl;
+            tied = record { head = ap shown q ∙ ap (λ (y : ℕ). record { limits = limits_of h.limits; last = Some k; held = y }) long; words = w };
           })
 
 -- the same, as the code meets them
 module _ (h : TopicCache) (es : List Entry) (ws : List ℕ) (t : ℕ) (x : CacheChange) (n : ℕ) (b : Bool)
     (count : (es : List Entry) → Holds es h.held ws → n ≡ drops_for (limits_of h.limits) es x.sequence_number x.payload_size)
     (find : (es : List Entry) → Holds es h.held ws → Written es → b ≡ holds_pair x.writer_guid x.sequence_number (drop n es)) where
-  pub add-held : b ≡ true → (k : TopicCache) (after : List ℕ) → k ≡ without h n → ((es : List Entry) → Holds es h.held ws → after ≡ words_of (drop n es)) → Internal h es ws t x (record { cache = k; answer = added.HeldAlready }) after
+  pub add-held : b ≡ true → (k : TopicCache) (after : List ℕ) → k ≡ without h n → ((es : List Entry) → Holds es h.held ws → after ≡ words_of (drop n es)) → Internal h es ws t x (Ok (record { cache = k; answer = added.HeldAlready })) after
   unfolding Internal
   add-held e k after q w o v m = came_held h es t x n (count es o) ws o (sym (find es o v) ∙ e) k after q (w es o)
 
-  pub add_six : b ≡ false → (i : Issued) → i ≡ key_of h.last_added_instant t → i ≡ issued.Refused → Internal h es ws t x (record { cache = h; answer = added.NoLaterKey }) ws
+  pub add_six : b ≡ false → (i : Issued) → i ≡ key_of h.last_added_instant t → i ≡ None → Internal h es ws t x (Err refusal.NoLaterKey) ws
   unfolding Internal
   add_six e i p q o v m = came-six h es t x n (count es o) ws o (sym (find es o v) ∙ e) (sym p ∙ q)
 
-  pub add-key : b ≡ false → (i : Issued) → i ≡ key_of h.last_added_instant t → (k : ℕ) → i ≡ issued.Key k → (r : Outcome) (after : List ℕ)
-      → r.answer ≡ added.Key k → r.cache ≡ inserted h n k → ((es : List Entry) → Holds es h.held ws → length (drop n es) < 384 → after ≡ words_of (drop n es ++ (entry_of x k ∷ []))) → Internal h es ws t x r after
+  pub add-key : b ≡ false → (i : Issued) → i ≡ key_of h.last_added_instant t → (k : ℕ) → i ≡ Some k → (g : TopicCache) (after : List ℕ)
+      → g ≡ inserted h n k → ((es : List Entry) → Holds es h.held ws → length (drop n es) < 384 → after ≡ words_of (drop n es ++ (entry_of x k ∷ [])))
+      → Internal h es ws t x (Ok (record { cache = g; answer = added.Key k })) after
   unfolding Internal
-  add-key e i p k q r after a u w o v m =
+  add-key e i p k q g after u w o v m =
       let f : length (drop n es) < places = room h es t x n (count es o) o.few m in
-      came-key h es t x n (count es o) ws o (sym (find es o v) ∙ e) k (sym p ∙ q) r after a u (w es o f) f
+      came-key h es t x n (count es o) ws o (sym (find es o v) ∙ e) k (sym p ∙ q) g after u (w es o f) f
 
 module _ (c : Topic) (h : TopicCache) (ws : List ℕ) (t : ℕ) (x : CacheChange) (f : Fit c) (d : Tied c h ws) (b : Bool) (e : b ≡ seq_fits x.sequence_number) where
-  pub add-bad : b ≡ false → Came (step c (add (change_of t x))) (record { cache = h; answer = added.BadSequenceNumber }) ws
+  pub add-bad : b ≡ false → Came (step c (add (change_of t x))) h (Err refusal.Malformed) ws
   unfolding step
   add-bad q = rw (← e, q) (record { answer = refl; tied = d })
 
-  pub add-good : b ≡ true → (r : Outcome) (after : List ℕ) → ((es : List Entry) → Internal h es ws t x r after) → Came (step c (add (change_of t x))) r after
+  pub add-good : b ≡ true → (r : Result Outcome Refusal) (after : List ℕ) → ((es : List Entry) → Internal h es ws t x r after) → Came (step c (add (change_of t x))) h r after
   unfolding step Internal
   add-good q r after i =
       rw (← e, q)
-      (subst (λ (y : Topic). Came (adding y (collected_for y (change_of t x)) (change_of t x)) r after) (topic-is c h d.head) (i c.entries (holds_of c h ws f d) f.writers (most-of c h ws f d)))
+      (subst (λ (y : Topic). Came (adding y (collected_for y (change_of t x)) (change_of t x)) h r after) (topic-is c h d.head) (i c.entries (holds_of c h ws f d) f.writers (most-of c h ws f d)))
 
 -- a refusal past the test of the sequence number
 module _ (h : TopicCache) (ws : List ℕ) where
-  pub refusing-held : (k : TopicCache) (after : List ℕ) → Refusing h ws (record { cache = k; answer = added.HeldAlready }) after
+  pub refusing-held : (k : TopicCache) (after : List ℕ) → Refusing h ws (Ok (record { cache = k; answer = added.HeldAlready })) after
   refusing-held k after n e = let z : ◌≡◌ {A = ℕ} 0 1 = cc in absurd (omega arith)
 
-  pub refusing-six : Refusing h ws (record { cache = h; answer = added.NoLaterKey }) ws
+  pub refusing-six : Refusing h ws (Err refusal.NoLaterKey) ws
   refusing-six n e = let p : 6 ≡ n = cc in (sym p, refl, refl)
 
-  pub refusing-key : (k : ℕ) (r : Outcome) (after : List ℕ) → r.answer ≡ added.Key k → Refusing h ws r after
-  refusing-key k r after a n e = let q : key k ≡ refused n = ap added_of (sym a) ∙ e in let z : ◌≡◌ {A = ℕ} 0 1 = cc in absurd (omega arith)
+  pub refusing-key : (k : ℕ) (g : TopicCache) (after : List ℕ) → Refusing h ws (Ok (record { cache = g; answer = added.Key k })) after
+  refusing-key k g after n e = let z : ◌≡◌ {A = ℕ} 0 1 = cc in absurd (omega arith)
 
 -- on any header and words
 module _ (h : TopicCache) (ws : List ℕ) (t : ℕ) (x : CacheChange) (v : Writer x.writer_guid) (b : Bool) (e : b ≡ seq_fits x.sequence_number) where
-  pub adds-bad : b ≡ false → Adds t x h ws (record { cache = h; answer = added.BadSequenceNumber }) ws
+  pub adds-bad : b ≡ false → Adds t x h ws (Err refusal.Malformed) ws
   adds-bad q = record {
     writer = v;
     by-1 = (λ a. sym e ∙ q, λ f. refl);
+    by-no-other = λ n a k. let p : 1 ≡ n = cc in absurd (k (sym p));
     as-found = λ n a. (refl, refl);
     stepped = λ c f d. add-bad c h ws t x f d b e q;
   }
 
-  pub adds-good : b ≡ true → (r : Outcome) (after : List ℕ) → Inner t x h ws r after → Adds t x h ws r after
+  pub adds-good : b ≡ true → (r : Result Outcome Refusal) (after : List ℕ) → Inner t x h ws r after → Adds t x h ws r after
   adds-good q r after i = record {
     writer = v;
     by-1 = (λ a. absurd (omega (arith, (i.refusing 1 a).0)), λ f. absurd (true≢false (sym q ∙ e ∙ f)));
+    by-no-other = λ n a k. (i.refusing n a).0;
     as-found = λ n a. ((i.refusing n a).1, (i.refusing n a).2);
     stepped = λ c f d. add-good c h ws t x f d b e q r after i.came;
   }
@@ -269,12 +280,12 @@ module _ (c : Topic) (h : TopicCache) (ws : List ℕ) (f : Fit c) (d : Tied c h 
   number : n ≡ length (within s t c.entries)
   number = count c.entries (holds_of c h ws f d)
 
-  pub range-short : length out / 6 < n → Shown (step c (range s t (length out / 6))) got.TooShort out out
+  pub range-short : length out / 6 < n → Shown (step c (range s t (length out / 6))) (Err refusal.NoRoom) out out
   unfolding step
   range-short k = rw (lt-leb (length (within s t c.entries)) (length out / 6) (omega (arith, number))) (record { answer = refl; results = refl })
 
   pub range-found : n ≤ length out / 6 → (after : List ℕ) → ((es : List Entry) → Holds es h.held ws → 6 * length (within s t es) ≤ length out → after ≡ shown_in (within s t es) out)
-      → Shown (step c (range s t (length out / 6))) (got.Changes n) out after
+      → Shown (step c (range s t (length out / 6))) (Ok n) out after
   unfolding step
   range-found k after w =
       let es : List Entry = within s t c.entries in
@@ -285,14 +296,14 @@ module _ (c : Topic) (h : TopicCache) (ws : List ℕ) (f : Fit c) (d : Tied c h 
       (record { answer = ap found back; results = is })
 
 module _ (h : TopicCache) (ws : List ℕ) (s t : ℕ) (out : List ℕ) (n : ℕ) (count : Ranging ws h.held s t n) where
-  pub ranges-short : length out / 6 < n → Ranges s t h ws got.TooShort out out
+  pub ranges-short : length out / 6 < n → Ranges s t h ws (Err refusal.NoRoom) out out
   ranges-short k = record {
     nothing = λ z. absurd (omega (arith, count.nothing z));
     as-found = λ m e. (let p : 9 ≡ m = cc in sym p, refl);
     stepped = λ c f d. range-short c h ws f d s t out n count.counted k;
   }
 
-  pub ranges-found : n ≤ length out / 6 → (after : List ℕ) → Copying ws h.held s t out after → Ranges s t h ws (got.Changes n) out after
+  pub ranges-found : n ≤ length out / 6 → (after : List ℕ) → Copying ws h.held s t out after → Ranges s t h ws (Ok n) out after
   unfolding entries_in
   ranges-found k after w = record {
     nothing = λ z. (ap (λ (m : ℕ). found (entries_in m 0 after)) (count.nothing z), w.nothing z);

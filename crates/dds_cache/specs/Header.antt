@@ -1,8 +1,12 @@
 -- How a topic cache lies in its header and the lent words, and what each call answers and leaves there.
-use Rattle.std.specs.Prelude.{◌≡◌, false, cond, ◌||◌, ◌↔◌, List, [], ℕ, ◌+◌, ◌-◌, ◌/◌, ◌%◌, ◌≤◌, ltb, leb, eqb, length}
+use Rattle.std.specs.Prelude.{Some, ◌≡◌, false, cond, ◌||◌, ◌↔◌, List, [], ℕ, ◌+◌, ◌-◌, ◌/◌, ◌%◌, ◌≤◌, ltb, leb, eqb, length}
 use Rattle.std.proofs.Math.Option.{Option, some, none}
-use Rattle.keys.specs.declared.Last.{Last}
-use Rattle.keys.specs.declared.Last.TheVariants as last
+use Rattle.std.specs.declared.result.Result.{Result}
+use Rattle.std.specs.declared.result.Result.TheVariants.{Ok, Err}
+use Rattle.refusals.specs.declared.Refusal.{Refusal}
+use Rattle.refusals.specs.declared.Refusal.TheVariants as refusal
+use Rattle.refusals.specs.Numbers.{number_of}
+use Rattle.keys.specs.Keys.{Last}
 use Rattle.model.specs.Topic.{Topic, Entry, Limits, Change, Step, Answer, refused, ok, key, held_already, found, update, add, remove_before, range, step, places, limits_fit, raised, fresh, removal, collect_every, collected_for, adding}
 use Rattle.sampleinfo.specs.Formed.{seq_fits}
 use Rattle.changes.specs.Places.{Holds, Writer, Written, words_of, shown_in, entries_in}
@@ -10,19 +14,10 @@ use Rattle.changes.specs.declared.CacheChange.{CacheChange}
 use Rattle.dds_cache.specs.declared.History.{History}
 use Rattle.dds_cache.specs.declared.History.TheVariants.{KeepAll, KeepLast}
 use Rattle.dds_cache.specs.declared.KeepLimits.{KeepLimits}
-use Rattle.dds_cache.specs.declared.Limited.{Limited}
-use Rattle.dds_cache.specs.declared.Limited.TheVariants as limited
 use Rattle.dds_cache.specs.declared.TopicCache.{TopicCache}
-use Rattle.dds_cache.specs.declared.Created.{Created}
-use Rattle.dds_cache.specs.declared.Created.TheVariants as created
-use Rattle.dds_cache.specs.declared.Update.{Update}
-use Rattle.dds_cache.specs.declared.Update.TheVariants as up
-use Rattle.dds_cache.specs.declared.Updated.{Updated}
 use Rattle.dds_cache.specs.declared.Added.{Added}
 use Rattle.dds_cache.specs.declared.Added.TheVariants as added
 use Rattle.dds_cache.specs.declared.Outcome.{Outcome}
-use Rattle.dds_cache.specs.declared.Found.{Found}
-use Rattle.dds_cache.specs.declared.Found.TheVariants as got
 
 -- ---- limits
 
@@ -41,9 +36,9 @@ given h most = record { depth = depth_of h; most = most }
 unfoldable pub new_limits : Limits → Option Limits
 new_limits l = cond (limits_fit l) (some (raised l)) none
 
-abbrev pub limited_of : Limited → Option Limits
-limited_of (limited.Limits l) = some (limits_of l)
-limited_of limited.OutOfBounds = none
+abbrev pub limited_of : Result KeepLimits Refusal → Option Limits
+limited_of (Ok l) = some (limits_of l)
+limited_of (Err e) = none
 
 -- ---- the header
 
@@ -75,9 +70,9 @@ topic_of h es = record { limits = limits_of h.limits; last = h.last_added_instan
 
 -- ---- making one
 
-abbrev pub created_of : Created → Option Head
-created_of (created.Cache h) = some (shown h)
-created_of created.OutOfBounds = none
+abbrev pub created_of : Result TopicCache Refusal → Option Head
+created_of (Ok h) = some (shown h)
+created_of (Err e) = none
 
 unfoldable pub made_of : Limits → Option Head
 made_of l = cond (limits_fit l) (some (head_of (fresh l))) none
@@ -91,50 +86,62 @@ cleared_if l ws = cond (limits_fit l) (words_of []) ws
 abbrev pub limits_number : Limits → ℕ
 limits_number l = cond (limits_fit l) 0 2
 
-abbrev pub limited_number : Limited → ℕ
-limited_number (limited.Limits l) = 0
-limited_number limited.OutOfBounds = 2
+abbrev pub limited_number : Result KeepLimits Refusal → ℕ
+limited_number (Ok l) = 0
+limited_number (Err e) = number_of e
 
-abbrev pub created_number : Created → ℕ
-created_number (created.Cache h) = 0
-created_number created.OutOfBounds = 2
+abbrev pub created_number : Result TopicCache Refusal → ℕ
+created_number (Ok h) = 0
+created_number (Err e) = number_of e
 
-abbrev pub update_of : Update → Answer
-update_of up.Raised = ok
-update_of up.OutOfBounds = refused 2
+abbrev pub update_of : Result TopicCache Refusal → Answer
+update_of (Ok h) = ok
+update_of (Err e) = refused (number_of e)
 
 abbrev pub added_of : Added → Answer
 added_of (added.Key k) = key k
 added_of added.HeldAlready = held_already
-added_of added.BadSequenceNumber = refused 1
-added_of added.NoLaterKey = refused 6
+
+abbrev pub outcome_of : Result Outcome Refusal → Answer
+outcome_of (Ok o) = added_of o.answer
+outcome_of (Err e) = refused (number_of e)
 
 -- the entries found stand in the results
-abbrev pub found_of : Found → List ℕ → Answer
-found_of (got.Changes n) out = found (entries_in n 0 out)
-found_of got.TooShort out = refused 9
+abbrev pub found_of : Result ℕ Refusal → List ℕ → Answer
+found_of (Ok n) out = found (entries_in n 0 out)
+found_of (Err e) out = refused (number_of e)
+
+-- ---- the cache that the caller has after a call: a refusal hands out none, and the caller's stands
+
+abbrev pub after_update : TopicCache → Result TopicCache Refusal → TopicCache
+after_update h (Ok k) = k
+after_update h (Err e) = h
+
+abbrev pub after_add : TopicCache → Result Outcome Refusal → TopicCache
+after_add h (Ok o) = o.cache
+after_add h (Err e) = h
 
 -- ---- what each call answers and leaves
 
 abbrev pub change_of : ℕ → CacheChange → Change
 change_of time x = record { time = time; writer = x.writer_guid; seq = x.sequence_number; handle = x.handle; size = x.payload_size }
 
-pub record Limiting (l : Limits) (r : Limited) : Type 0 where
+pub record Limiting (l : Limits) (r : Result KeepLimits Refusal) : Type 0 where
   pub number : limited_number r ≡ limits_number l
   pub limits : limited_of r ≡ new_limits l
 
-pub record Creating (l : Limits) (r : Created) (ws after : List ℕ) : Type 0 where
+pub record Creating (l : Limits) (r : Result TopicCache Refusal) (ws after : List ℕ) : Type 0 where
   pub number : created_number r ≡ limits_number l
   pub head : created_of r ≡ made_of l
   pub words : after ≡ cleared_if l ws
 
-pub record Raised (s : Step) (r : Updated) : Type 0 where
-  pub answer : update_of r.answer ≡ s.answer
-  pub head : shown r.cache ≡ head_of s.then
+pub record Raised (s : Step) (h : TopicCache) (r : Result TopicCache Refusal) : Type 0 where
+  pub answer : update_of r ≡ s.answer
+  pub head : shown (after_update h r) ≡ head_of s.then
 
-pub record Came (s : Step) (r : Outcome) (ws : List ℕ) : Type 0 where
-  pub answer : added_of r.answer ≡ s.answer
-  pub tied : Tied s.then r.cache ws
+pub record Came (s : Step) (h : TopicCache) (r : Result Outcome Refusal) (ws : List ℕ) : Type 0 where
+  pub answer : outcome_of r ≡ s.answer
+  pub tied : Tied s.then (after_add h r) ws
 
 pub record Removed (s : Step) (r : TopicCache) (ws : List ℕ) : Type 0 where
   pub answer : ok ≡ s.answer
@@ -148,24 +155,26 @@ results_of ok out = out
 results_of (key k) out = out
 results_of held_already out = out
 
-pub record Shown (s : Step) (r : Found) (before after : List ℕ) : Type 0 where
+pub record Shown (s : Step) (r : Result ℕ Refusal) (before after : List ℕ) : Type 0 where
   pub answer : found_of r after ≡ s.answer
   pub results : after ≡ results_of s.answer before
 
 -- ---- the contracts: on any header and words what depends on the arguments alone, and on those of a topic cache what the model's step says
 
-pub record Updates (l : Limits) (h : TopicCache) (r : Updated) : Type 0 where
-  pub out-of-bounds : limits_fit l ≡ false → r ≡ record { cache = h; answer = up.OutOfBounds }
-  pub stepped : (c : Topic) → shown h ≡ head_of c → Raised (step c (update l)) r
+pub record Updates (l : Limits) (h : TopicCache) (r : Result TopicCache Refusal) : Type 0 where
+  pub out-of-bounds : limits_fit l ≡ false → r ≡ Err refusal.OutOfBounds
+  pub stepped : (c : Topic) → shown h ≡ head_of c → Raised (step c (update l)) h r
 
-pub record Adds (time : ℕ) (x : CacheChange) (h : TopicCache) (ws : List ℕ) (r : Outcome) (after : List ℕ) : Type 0 where
+pub record Adds (time : ℕ) (x : CacheChange) (h : TopicCache) (ws : List ℕ) (r : Result Outcome Refusal) (after : List ℕ) : Type 0 where
   -- "writer 16 bytes", as its type has it: so what is held stays `Fit`
   pub writer : Writer x.writer_guid
   -- "sequence number out of range"
-  pub by-1 : (added_of r.answer ≡ refused 1) ↔ (seq_fits x.sequence_number ≡ false)
+  pub by-1 : (outcome_of r ≡ refused 1) ↔ (seq_fits x.sequence_number ≡ false)
+  -- "no key later than the last issued exists", and by no other number
+  pub by-no-other : (n : ℕ) → outcome_of r ≡ refused n → (n ≡ 1 → ⊥) → n ≡ 6
   -- "Every refusal returns its number only; state and lent buffers stay as found."
-  pub as-found : (n : ℕ) → added_of r.answer ≡ refused n → (r.cache ≡ h) × (after ≡ ws)
-  pub stepped : (c : Topic) → Fit c → Tied c h ws → Came (step c (add (change_of time x))) r after
+  pub as-found : (n : ℕ) → outcome_of r ≡ refused n → (after_add h r ≡ h) × (after ≡ ws)
+  pub stepped : (c : Topic) → Fit c → Tied c h ws → Came (step c (add (change_of time x))) h r after
 
 pub record Removes (time : ℕ) (h : TopicCache) (ws : List ℕ) (r : TopicCache) (after : List ℕ) : Type 0 where
   -- a removal is never refused; limits and last key stay, and no more are held
@@ -174,7 +183,7 @@ pub record Removes (time : ℕ) (h : TopicCache) (ws : List ℕ) (r : TopicCache
   pub fewer : r.held ≤ h.held
   pub stepped : (c : Topic) → Fit c → Tied c h ws → Removed (step c (remove_before time)) r after
 
-pub record Ranges (start end : ℕ) (h : TopicCache) (ws : List ℕ) (r : Found) (out after : List ℕ) : Type 0 where
+pub record Ranges (start end : ℕ) (h : TopicCache) (ws : List ℕ) (r : Result ℕ Refusal) (out after : List ℕ) : Type 0 where
   -- "with start above end, nothing"
   pub nothing : end ≤ start → (found_of r after ≡ found []) × (after ≡ out)
   pub as-found : (n : ℕ) → found_of r after ≡ refused n → (n ≡ 9) × (after ≡ out)
@@ -194,18 +203,18 @@ behind at = cond (ltb at places) (at + 1) at
 
 -- without its oldest n, and one more behind the last
 abbrev pub inserted : TopicCache → ℕ → ℕ → TopicCache
-inserted h n k = record { limits = h.limits; last_added_instant = last.Key k; held = behind (h.held - n) }
+inserted h n k = record { limits = h.limits; last_added_instant = Some k; held = behind (h.held - n) }
 
 -- an add whose sequence number is in range
-unfoldable pub Internal : TopicCache → List Entry → List ℕ → ℕ → CacheChange → Outcome → List ℕ → Type 0
+unfoldable pub Internal : TopicCache → List Entry → List ℕ → ℕ → CacheChange → Result Outcome Refusal → List ℕ → Type 0
 Internal h es ws instant x r after =
     Holds es h.held ws → Written es → h.limits.max_keep_samples ≤ 256
-    → Came (adding (topic_of h es) (collected_for (topic_of h es) (change_of instant x)) (change_of instant x)) r after
+    → Came (adding (topic_of h es) (collected_for (topic_of h es) (change_of instant x)) (change_of instant x)) h r after
 
 -- past the test of the sequence number there is one refusal, and it leaves the header and the words, whatever they are
-abbrev pub Refusing : TopicCache → List ℕ → Outcome → List ℕ → Type 0
-Refusing h ws r after = (n : ℕ) → added_of r.answer ≡ refused n → (n ≡ 6) × (r.cache ≡ h) × (after ≡ ws)
+abbrev pub Refusing : TopicCache → List ℕ → Result Outcome Refusal → List ℕ → Type 0
+Refusing h ws r after = (n : ℕ) → outcome_of r ≡ refused n → (n ≡ 6) × (after_add h r ≡ h) × (after ≡ ws)
 
-pub record Inner (time : ℕ) (x : CacheChange) (h : TopicCache) (ws : List ℕ) (r : Outcome) (after : List ℕ) : Type 0 where
+pub record Inner (time : ℕ) (x : CacheChange) (h : TopicCache) (ws : List ℕ) (r : Result Outcome Refusal) (after : List ℕ) : Type 0 where
   pub refusing : Refusing h ws r after
   pub came : (es : List Entry) → Internal h es ws time x r after

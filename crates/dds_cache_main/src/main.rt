@@ -4,371 +4,332 @@
 ghost use Rattle.std.specs.Prelude.{◌≤◌};
 
 use changes::CacheChange;
-use dds_cache::{Added, Created, Found, History, KeepLimits, TopicCache, Update};
+use dds_cache::{Added, History, KeepLimits, TopicCache};
 use std::io::Stdout;
 
-// ---- printing
-
-fn print(output: Stdout, text: &[u8]) {
-    let _ = output.write_all(text);
-}
-
-fn print_number(output: Stdout, text: &[u8], n: u64) {
-    let _ = output.write_all(text);
-    let _ = print!(output; "{n}");
-}
-
-fn print_held(output: Stdout, cache: TopicCache) {
-    print_number(output, b" held ", cache.held as u64);
-    print(output, b"\n");
-}
-
-fn print_limits(output: Stdout, cache: TopicCache) {
-    let limits = cache.limits;
-    let history = limits.min_keep_samples;
-    match history {
-        History::KeepAll => print(output, b"depth all"),
-        History::KeepLast(depth) => print_number(output, b"depth ", depth as u64),
-    }
-    print_number(output, b" most ", limits.max_keep_samples as u64);
-    print_held(output, cache);
-}
-
-fn print_added(output: Stdout, answer: Added) {
-    match answer {
-        Added::Key(key) => print_number(output, b"key ", key),
-        Added::HeldAlready => print(output, b"held already"),
-        Added::BadSequenceNumber => print(output, b"refused 1"),
-        Added::NoLaterKey => print(output, b"refused 6"),
-    }
-}
-
-// ---- calls
-
-fn create(
+// Where answers go, the lent words and the cache over them.
+#[derive(Drop)]
+struct Replay {
     output: Stdout,
-    history: History,
-    max_samples: u32,
-    words: &mut [u64; CacheChange::TABLE],
-) {
-    match TopicCache::new(history, max_samples, words) {
-        Created::OutOfBounds => print(output, b"refused 2\n"),
-        Created::Cache(cache) => print_limits(output, cache),
-    }
-}
-
-fn update(output: Stdout, cache: TopicCache, history: History, max_samples: u32) -> TopicCache {
-    let updated = cache.update_keep_limits(history, max_samples);
-    let answer = updated.answer;
-    match answer {
-        Update::Raised => print(output, b""),
-        Update::OutOfBounds => print(output, b"refused 2 "),
-    }
-    let then = updated.cache;
-    print_limits(output, then);
-    then
-}
-
-fn remove(
-    output: Stdout,
+    words: [u64; CacheChange::TABLE],
     cache: TopicCache,
-    words: &mut [u64; CacheChange::TABLE],
-    before: u64,
-) -> TopicCache {
-    let then = cache.remove_changes_before(words, before);
-    print(output, b"ok");
-    print_held(output, then);
-    then
 }
+
+// ---- changes
 
 // Writers that differ in their first or last byte alone.
 fn writer(first: u8, last: u8) -> [u8; 16] {
     [first, 2, 3, 4, 5, 6, 7, 8, 9, 10, 11, 12, 13, 14, 15, last]
 }
 
-fn add_from(
-    output: Stdout,
-    cache: TopicCache,
-    words: &mut [u64; CacheChange::TABLE],
-    instant: u64,
-    guid: [u8; 16],
-    sn: u64,
-    handle: u32,
-    size: u32,
-) -> TopicCache {
-    let change = CacheChange {
-        writer_guid: guid,
-        sequence_number: sn,
-        handle: handle,
-        payload_size: size,
-    };
-    let outcome = cache.add_change(words, instant, change);
-    let answer = outcome.answer;
-    print_added(output, answer);
-    let then = outcome.cache;
-    print_held(output, then);
-    then
+fn change(sequence_number: u64, payload_size: u32) -> CacheChange {
+    CacheChange {
+        writer_guid: writer(1, 16),
+        sequence_number,
+        handle: 0,
+        payload_size,
+    }
 }
 
-fn add(
-    output: Stdout,
-    cache: TopicCache,
-    words: &mut [u64; CacheChange::TABLE],
-    instant: u64,
-    sn: u64,
-    size: u32,
-) -> TopicCache {
-    add_from(output, cache, words, instant, writer(1, 16), sn, 0, size)
-}
+// ---- printing
 
-// ---- the range
-
+// The keys of the first n results.
 fn print_keys(output: Stdout, out: &[u64], n: usize) {
-    let mut i = 0;
-    while i < n {
-        let kept = changes::kept_at(out, i);
-        print_number(output, b" ", kept.key);
-        i += 1;
+    for i in 0..n {
+        let key = changes::kept_at(out, i).key;
+        let _ = print!(output; " {key}");
     }
 }
 
 // The place past the answer.
 fn print_past(output: Stdout, out: &[u64], n: usize) {
-    if n < 100 {
-        if 6 * n < out.len() {
-            print_number(output, b" then ", out[6 * n]);
-        }
+    if let Some(past) = out.get(n.saturating_mul(CacheChange::WORDS)) {
+        let _ = print!(output; " then {past}");
     }
-    print(output, b"\n");
-}
-
-fn wide(x: u8) -> u64 {
-    x as u64
+    let _ = println!(output; "");
 }
 
 // Key, sequence number, handle, payload size, and the writer's first and last byte.
 fn print_kept(output: Stdout, out: &[u64], i: usize) {
     let kept = changes::kept_at(out, i);
-    print_number(output, b"", kept.key);
     let change = kept.change;
-    print_number(output, b" ", change.sequence_number);
-    print_number(output, b" ", change.handle as u64);
-    print_number(output, b" ", change.payload_size as u64);
-    let guid = change.writer_guid;
-    print_number(output, b" ", wide(guid[0]));
-    print_number(output, b" ", wide(guid[15]));
-    print(output, b"\n");
+    let [first, .., last] = change.writer_guid;
+    let _ = print!(output; "{} {} ", kept.key, change.sequence_number);
+    let _ = println!(output; "{} {} {first} {last}", change.handle, change.payload_size);
 }
 
-fn look_into(
-    output: Stdout,
-    cache: TopicCache,
-    words: &[u64; CacheChange::TABLE],
-    start: u64,
-    end: u64,
-    out: &mut [u64],
-) {
-    match cache.get_changes_in_range_best_effort(words, start, end, out) {
-        Found::TooShort => {
-            print(output, b"refused 9");
-            print_past(output, out, 0);
+fn print_added(output: Stdout, answer: Added) {
+    let _ = match answer {
+        Added::Key(key) => print!(output; "key {key}"),
+        Added::HeldAlready => print!(output; "held already"),
+    };
+}
+
+fn fresh() -> TopicCache {
+    TopicCache {
+        limits: KeepLimits::default(),
+        last_added_instant: keys::topic(),
+        held: 0,
+    }
+}
+
+impl Replay {
+    fn print_held(&self) {
+        let _ = println!(self.output; " held {}", self.cache.held);
+    }
+
+    fn print_limits(&self) {
+        let most = self.cache.limits.max_keep_samples;
+        let _ = match self.cache.limits.min_keep_samples {
+            History::KeepAll => print!(self.output; "depth all most {most}"),
+            History::KeepLast(depth) => print!(self.output; "depth {depth} most {most}"),
+        };
+        self.print_held();
+    }
+
+    // ---- calls
+
+    fn create(&mut self, history: History, max_samples: u32) {
+        match TopicCache::new(history, max_samples, &mut self.words) {
+            Ok(cache) => {
+                self.cache = cache;
+                self.print_limits();
+            }
+            Err(why) => {
+                let _ = println!(self.output; "refused {why}");
+            }
         }
-        Found::Changes(n) => {
-            print_number(output, b"found ", n as u64);
-            print(output, b" keys");
-            print_keys(output, out, n);
-            print_past(output, out, n);
+    }
+
+    // Not printed.
+    fn start(&mut self, history: History, max_samples: u32) {
+        self.cache = TopicCache::new(history, max_samples, &mut self.words).unwrap_or(fresh());
+    }
+
+    fn update(&mut self, history: History, max_samples: u32) {
+        match self.cache.update_keep_limits(history, max_samples) {
+            Ok(cache) => self.cache = cache,
+            Err(why) => {
+                let _ = print!(self.output; "refused {why} ");
+            }
+        }
+        self.print_limits();
+    }
+
+    fn remove(&mut self, before: u64) {
+        self.cache = self.cache.remove_changes_before(&mut self.words, before);
+        let _ = print!(self.output; "ok");
+        self.print_held();
+    }
+
+    fn add(&mut self, instant: u64, change: CacheChange) {
+        match self.cache.add_change(&mut self.words, instant, change) {
+            Ok(outcome) => {
+                self.cache = outcome.cache;
+                print_added(self.output, outcome.answer);
+            }
+            Err(why) => {
+                let _ = print!(self.output; "refused {why}");
+            }
+        }
+        self.print_held();
+    }
+
+    fn add_all(&mut self, calls: &[(u64, CacheChange)]) {
+        for (instant, change) in calls {
+            self.add(*instant, *change);
         }
     }
-}
 
-fn look(
-    output: Stdout,
-    cache: TopicCache,
-    words: &[u64; CacheChange::TABLE],
-    start: u64,
-    end: u64,
-) {
-    let mut out = [7u64; 60];
-    look_into(output, cache, words, start, end, &mut out);
-}
-
-// ---- the list of calls
-
-fn limits(output: Stdout, words: &mut [u64; CacheChange::TABLE]) {
-    print(output, b"limits\n");
-    create(output, History::KeepLast(0), 64, words);
-    create(output, History::KeepLast(257), 64, words);
-    create(output, History::KeepLast(1), 0, words);
-    create(output, History::KeepAll, 257, words);
-    create(output, History::KeepLast(256), 1, words);
-    create(output, History::KeepAll, 1, words);
-    let default = KeepLimits::default_limits();
-    let history = default.min_keep_samples;
-    create(output, history, default.max_keep_samples, words);
-}
-
-fn keys_and_range(output: Stdout, fresh: TopicCache, words: &mut [u64; CacheChange::TABLE]) {
-    print(output, b"keys\n");
-    let a = add(output, fresh, words, 0, 1, 0);
-    let b = add(output, a, words, 1, 2, 0);
-    let c = add_from(output, b, words, 100, writer(1, 16), 3, 30, 1024);
-    let d = add_from(output, c, words, 50, writer(1, 99), 3, 40, 0);
-    let e = add_from(output, d, words, 60, writer(98, 16), 3, 50, 65537);
-    let f = add(output, e, words, 500, 3, 0);
-    let g = add(output, f, words, 500, 0, 0);
-    let h = add(output, g, words, 500, 9_223_372_036_854_775_808, 0);
-    let i = add(output, h, words, 200, 9_223_372_036_854_775_807, 0);
-    look(output, i, words, 1, 101);
-    look(output, i, words, 101, 101);
-    look(output, i, words, 101, 100);
-    let mut short = [7u64; 35];
-    look_into(output, i, words, 0, u64::MAX, &mut short);
-    let mut exact = [7u64; 36];
-    look_into(output, i, words, 0, u64::MAX, &mut exact);
-    print_kept(output, &exact, 2);
-    print_kept(output, &exact, 3);
-    print_kept(output, &exact, 4);
-}
-
-// Not printed.
-fn quiet(
-    cache: TopicCache,
-    words: &mut [u64; CacheChange::TABLE],
-    instant: u64,
-    sn: u64,
-) -> TopicCache {
-    let outcome = cache.add_change(
-        words,
-        instant,
-        CacheChange {
-            writer_guid: writer(1, 16),
-            sequence_number: sn,
-            handle: 0,
-            payload_size: 0,
-        },
-    );
-    outcome.cache
-}
-
-// Changes at the times step * first to step * last, under odd sequence numbers: no collection but for a full table.
-fn fill(
-    start: TopicCache,
-    words: &mut [u64; CacheChange::TABLE],
-    step: u64,
-    first: u64,
-    last: u64,
-) -> TopicCache
-    requires { (step ≤ 10) × (1 ≤ first) × (last ≤ 1000) }
-{
-    let mut cache = start;
-    let mut t = first;
-    while t <= last {
-        cache = quiet(cache, words, step * t, 2 * t - 1);
-        t += 1;
+    // Not printed.
+    fn quiet(&mut self, instant: u64, change: CacheChange) {
+        if let Ok(outcome) = self.cache.add_change(&mut self.words, instant, change) {
+            self.cache = outcome.cache;
+        }
     }
-    cache
-}
 
-fn started(
-    history: History,
-    max_samples: u32,
-    words: &mut [u64; CacheChange::TABLE],
-) -> TopicCache {
-    match TopicCache::new(history, max_samples, words) {
-        Created::Cache(cache) => cache,
-        Created::OutOfBounds => TopicCache {
-            limits: KeepLimits::default_limits(),
-            last_added_instant: keys::topic(),
-            held: 0,
-        },
+    // Changes at the times step * first to step * last, under odd sequence numbers: no collection but for a full table.
+    fn fill(&mut self, step: u64, first: u64, last: u64)
+        requires { (step ≤ 10) × (1 ≤ first) × (last ≤ 1000) }
+    {
+        for t in first..last + 1 {
+            self.quiet(step * t, change(2 * t - 1, 0));
+        }
     }
-}
 
-fn removal(output: Stdout, words: &mut [u64; CacheChange::TABLE]) {
-    print(output, b"removal\n");
-    let a = started(History::KeepLast(3), 5, words);
-    let b = fill(a, words, 10, 1, 7);
-    let c = remove(output, b, words, 0);
-    let d = remove(output, c, words, 1000);
-    let e = remove(output, d, words, 1000);
-    look(output, e, words, 0, u64::MAX);
-    let f = add(output, e, words, 80, 15, 0);
-    let g = remove(output, f, words, 50);
-    let h = remove(output, g, words, 51);
-    look(output, h, words, 0, u64::MAX);
-    let i = started(History::KeepAll, 2, words);
-    let j = fill(i, words, 10, 1, 3);
-    let k = remove(output, j, words, 1000);
-    remove(output, k, words, 1000);
-}
+    // ---- the range
 
-fn collection(output: Stdout, words: &mut [u64; CacheChange::TABLE]) -> TopicCache {
-    print(output, b"collection\n");
-    let a = started(History::KeepLast(1), 2, words);
-    let b = fill(a, words, 1, 1, 2);
-    let c = add(output, b, words, 3, 5, 0);
-    let d = add(output, c, words, 4, 64, 1024);
-    let e = add(output, d, words, 5, 65, 1024);
-    let f = add(output, e, words, 6, 8, 1024);
-    let g = add(output, f, words, 7, 16, 1025);
-    let h = add(output, g, words, 8, 17, 1025);
-    let i = add(output, h, words, 9, 24, 65536);
-    let j = add(output, i, words, 10, 25, 65536);
-    let k = add(output, j, words, 11, 27, 65537);
-    let l = add(output, k, words, 12, 24, 65537);
-    add(output, l, words, 13, 27, 65537)
-}
+    fn look_into(&self, start: u64, end: u64, out: &mut [u64]) {
+        match self
+            .cache
+            .get_changes_in_range_best_effort(&self.words, start, end, out)
+        {
+            Ok(n) => {
+                let _ = print!(self.output; "found {n} keys");
+                print_keys(self.output, out, n);
+                print_past(self.output, out, n);
+            }
+            Err(why) => {
+                let _ = print!(self.output; "refused {why}");
+                print_past(self.output, out, 0);
+            }
+        }
+    }
 
-fn last_key(
-    output: Stdout,
-    cache: TopicCache,
-    words: &mut [u64; CacheChange::TABLE],
-) -> TopicCache {
-    print(output, b"last key\n");
-    let a = add(output, cache, words, u64::MAX, 101, 0);
-    let b = add(output, a, words, 14, 102, 65537);
-    look(output, b, words, 0, u64::MAX);
-    let c = add(output, b, words, 14, 101, 65537);
-    add(output, c, words, 14, 103, 0)
-}
+    fn look(&self, start: u64, end: u64) {
+        self.look_into(start, end, &mut [7; 60]);
+    }
 
-fn updates(output: Stdout, cache: TopicCache) {
-    print(output, b"update\n");
-    let a = update(output, cache, History::KeepLast(3), 1);
-    let b = update(output, a, History::KeepLast(2), 2);
-    let c = update(output, b, History::KeepLast(257), 10);
-    let d = update(output, c, History::KeepAll, 1);
-    let e = update(output, d, History::KeepLast(256), 100);
-    update(output, e, History::KeepAll, 0);
-}
+    // ---- the list of calls
 
-fn full(output: Stdout, words: &mut [u64; CacheChange::TABLE]) {
-    print(output, b"full\n");
-    let a = started(History::KeepAll, 256, words);
-    let b = fill(a, words, 1, 1, 383);
-    let c = add(output, b, words, 384, 767, 0);
-    let d = add(output, c, words, 385, 767, 0);
-    let e = fill(d, words, 1, 385, 511);
-    let f = add(output, e, words, 512, 1023, 0);
-    let g = add(output, f, words, 513, 1, 0);
-    look(output, g, words, 511, 513);
-    remove(output, g, words, u64::MAX);
-}
+    fn limits(&mut self) {
+        let _ = println!(self.output; "limits");
+        let default = KeepLimits::default();
+        for (history, max_samples) in [
+            (History::KeepLast(0), 64),
+            (History::KeepLast(257), 64),
+            (History::KeepLast(1), 0),
+            (History::KeepAll, 257),
+            (History::KeepLast(256), 1),
+            (History::KeepAll, 1),
+            (default.min_keep_samples, default.max_keep_samples),
+        ] {
+            self.create(history, max_samples);
+        }
+    }
 
-fn all(output: Stdout, words: &mut [u64; CacheChange::TABLE]) {
-    limits(output, words);
-    let fresh = started(History::KeepLast(1), 64, words);
-    keys_and_range(output, fresh, words);
-    removal(output, words);
-    let held = collection(output, words);
-    let spent = last_key(output, held, words);
-    updates(output, spent);
-    full(output, words);
+    fn keys(&mut self) {
+        let _ = println!(self.output; "keys");
+        self.start(History::KeepLast(1), 64);
+        self.add_all(&[
+            (0, change(1, 0)),
+            (1, change(2, 0)),
+            (
+                100,
+                CacheChange {
+                    handle: 30,
+                    ..change(3, 1024)
+                },
+            ),
+            (
+                50,
+                CacheChange {
+                    writer_guid: writer(1, 99),
+                    handle: 40,
+                    ..change(3, 0)
+                },
+            ),
+            (
+                60,
+                CacheChange {
+                    writer_guid: writer(98, 16),
+                    handle: 50,
+                    ..change(3, 65537)
+                },
+            ),
+            (500, change(3, 0)),
+            (500, change(0, 0)),
+            (500, change(9_223_372_036_854_775_808, 0)),
+            (200, change(9_223_372_036_854_775_807, 0)),
+        ]);
+    }
+
+    fn range(&self) {
+        self.look(1, 101);
+        self.look(101, 101);
+        self.look(101, 100);
+        self.look_into(0, u64::MAX, &mut [7; 35]);
+        let mut exact = [7; 36];
+        self.look_into(0, u64::MAX, &mut exact);
+        for i in 2..5 {
+            print_kept(self.output, &exact, i);
+        }
+    }
+
+    fn removal(&mut self) {
+        let _ = println!(self.output; "removal");
+        self.start(History::KeepLast(3), 5);
+        self.fill(10, 1, 7);
+        for before in [0, 1000, 1000] {
+            self.remove(before);
+        }
+        self.look(0, u64::MAX);
+        self.add(80, change(15, 0));
+        for before in [50, 51] {
+            self.remove(before);
+        }
+        self.look(0, u64::MAX);
+        self.start(History::KeepAll, 2);
+        self.fill(10, 1, 3);
+        for before in [1000, 1000] {
+            self.remove(before);
+        }
+    }
+
+    fn collection(&mut self) {
+        let _ = println!(self.output; "collection");
+        self.start(History::KeepLast(1), 2);
+        self.fill(1, 1, 2);
+        self.add_all(&[
+            (3, change(5, 0)),
+            (4, change(64, 1024)),
+            (5, change(65, 1024)),
+            (6, change(8, 1024)),
+            (7, change(16, 1025)),
+            (8, change(17, 1025)),
+            (9, change(24, 65536)),
+            (10, change(25, 65536)),
+            (11, change(27, 65537)),
+            (12, change(24, 65537)),
+            (13, change(27, 65537)),
+        ]);
+    }
+
+    fn last_key(&mut self) {
+        let _ = println!(self.output; "last key");
+        self.add_all(&[(u64::MAX, change(101, 0)), (14, change(102, 65537))]);
+        self.look(0, u64::MAX);
+        self.add_all(&[(14, change(101, 65537)), (14, change(103, 0))]);
+    }
+
+    fn updates(&mut self) {
+        let _ = println!(self.output; "update");
+        for (history, max_samples) in [
+            (History::KeepLast(3), 1),
+            (History::KeepLast(2), 2),
+            (History::KeepLast(257), 10),
+            (History::KeepAll, 1),
+            (History::KeepLast(256), 100),
+            (History::KeepAll, 0),
+        ] {
+            self.update(history, max_samples);
+        }
+    }
+
+    fn full(&mut self) {
+        let _ = println!(self.output; "full");
+        self.start(History::KeepAll, 256);
+        self.fill(1, 1, 383);
+        self.add_all(&[(384, change(767, 0)), (385, change(767, 0))]);
+        self.fill(1, 385, 511);
+        self.add_all(&[(512, change(1023, 0)), (513, change(1, 0))]);
+        self.look(511, 513);
+        self.remove(u64::MAX);
+    }
 }
 
 fn main(rt: HostRuntime) {
-    let output = rt.stdout();
-    let mut words = [0u64; CacheChange::TABLE];
-    all(output, &mut words);
+    let mut replay = Replay {
+        output: rt.stdout(),
+        words: [0; CacheChange::TABLE],
+        cache: fresh(),
+    };
+    replay.limits();
+    replay.keys();
+    replay.range();
+    replay.removal();
+    replay.collection();
+    replay.last_key();
+    replay.updates();
+    replay.full();
 }

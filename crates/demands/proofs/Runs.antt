@@ -14,7 +14,7 @@ use Rattle.rust_model.proofs.Equal.{equal-to-the-rust}
 use Rattle.refine.specs.Good.{Good}
 use Rattle.refine.proofs.GoodLaws.{good-step, good-run}
 use Rattle.demands.specs.Meets.{Memory, Holds, Seen, Means}
-use Rattle.demands.specs.Calls.{holding}
+use Rattle.demands.specs.Calls.{holding, begun}
 use Rattle.demands.proofs.Calls.{called-meets, odd-stays, set-up-begins}
 use Rattle.demands.specs.Runs.{Calls, done, then, odd, Runs, Agree, made, Kept3, AsTheRust}
 
@@ -36,7 +36,7 @@ pub code_runs : {u : SetUp} {d : Option ℕ} {cs : List Call} {ss : List Seen} {
 unfolding run
 code_runs {u = u} {d = d} {cs = cs} {ss = ss} {z = z} r =
     let w : (within u ≡ true) × (keep_of u ≡ d) = passes r in
-    let x : Holds (made (keep_of u) u) (holding r.outcome.head r.words'.now r.table'.now) =
+    let x : Holds (made (keep_of u) u) (holding (begun r.head r.outcome) r.words'.now r.table'.now) =
     set-up-begins r.head r.words r.words' r.table r.table' u r.outcome r.long w.0 r.set-up in
     subst (λ k. Agree ss (answers (made k u) cs) × Holds (run (made k u) cs) z) w.1 (calls-from r.calls (made (keep_of u) u) (good-run u w.0 []) x)
 

@@ -12,9 +12,10 @@ use Rattle.rust_model.specs.Maps.{gives}
 use Rattle.rust_model.specs.DataSampleCache.{DataSampleCache, new}
 use Rattle.rust_model.specs.Equal as rust
 use Rattle.index.specs.declared.Cache.{Cache}
-use Rattle.datasample_cache.specs.declared.SetUpOutcome.{SetUpOutcome}
+use Rattle.std.specs.declared.result.Result.{Result}
+use Rattle.refusals.specs.declared.Refusal.{Refusal}
 use Rattle.demands.specs.Meets.{Memory, Holds, Seen, Means}
-use Rattle.demands.specs.Calls.{holding, SetUpCall, Called, OddCalled}
+use Rattle.demands.specs.Calls.{holding, begun, SetUpCall, Called, OddCalled}
 
 -- calls in a row, each on what the one before left: the calls, what was seen of each, and the memory at the end. Calls with an odd key list may stand between
 pub data Calls : Memory → List Call → List Seen → Memory → Type 0 where
@@ -31,9 +32,9 @@ pub record Runs (u : SetUp) (d : Option ℕ) (cs : List Call) (ss : List Seen) (
   pub long : length table.now ≡ 256
   pub words' : MutBor (List ℕ)
   pub table' : MutBor (List Sample)
-  pub outcome : SetUpOutcome
-  pub set-up : SetUpCall head words table u outcome words' table'
-  pub calls : Calls (holding outcome.head words'.now table'.now) cs ss z
+  pub outcome : Result Cache Refusal
+  pub set-up : SetUpCall words table u outcome words' table'
+  pub calls : Calls (holding (begun head outcome) words'.now table'.now) cs ss z
 
 -- each is what was seen of the answer beside it
 abbrev pub Agree : List Seen → List Answer → Type 0

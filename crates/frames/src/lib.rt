@@ -2,205 +2,90 @@
 // whether standard output takes it no contract can say; what is made of the bytes that came has one.
 #![tactic(auto)]
 
-ghost use Rattle.std.specs.Prelude.{◌≡◌, true, ◌+◌, ◌≤◌, ◌<◌, length, is_ok, IsErr};
+ghost use Rattle.std.specs.Prelude.{◌≡◌, ◌≤◌, ◌<◌, length, is_ok, IfOk, OnOk};
 ghost use Rattle.records.specs.Format.{byte_at, number_at, too_long};
-ghost use Rattle.frames.specs.Pieces.{piece_of, version_of, Most};
+ghost use Rattle.frames.specs.Pieces.{piece_of, version_of};
 
 use std::io::{Cursor, ErrorKind, Print, Read, Write};
 use std::{io, str};
 
 // ---- the input
 
-// A program's input, and how its last read went: what is made of a read that fails says no more than that it did.
+// Why no whole piece of the input came: it ends where it may, it is cut off, or a read failed.
 #[derive(Drop)]
-pub struct Source<R> {
-    pub reader: R,
-    pub last: io::Result<()>,
-}
-
-impl<R> Source<R> {
-    pub fn new(reader: R) -> Source<R>
-        ensures whose { result.reader ≡ reader }
-        ensures none_failed { is_ok result.last ≡ true }
-    {
-        Source {
-            reader,
-            last: Ok(()),
-        }
-    }
-}
-
-// What the input gave of the bytes that were asked for: how many came, and whether a read failed.
-#[derive(Clone, Copy)]
-pub struct Got {
-    pub n: usize,
-    pub failed: bool,
-}
-
-// One read into the lent bytes from place n on.
-fn read_on<R: Read>(input: &mut Source<R>, buf: &mut [u8], n: usize) -> Got
-    requires { n ≤ length buf.old }
-    ensures within { n + result.n ≤ length buf.new }
-    ensures why { result.failed ≡ true → IsErr input.new.last }
-{
-    match input.reader.read(&mut buf[n..]) {
-        Ok(k) => {
-            input.last = Ok(());
-            Got {
-                n: k,
-                failed: false,
-            }
-        }
-        Err(e) => {
-            input.last = Err(e);
-            Got {
-                n: 0,
-                failed: input.last.is_err(),
-            }
-        }
-    }
+pub enum Stop {
+    Over,
+    Cut,
+    Failed(io::Error),
 }
 
 // Reads until the lent bytes are full, the input ends or a read fails. std's read_exact does not tell the last two apart, and reads on where a signal
 // interrupts.
-fn fill<R: Read>(input: &mut Source<R>, buf: &mut [u8]) -> Got
-    ensures within { result.n ≤ length buf.new }
-    ensures why { result.failed ≡ true → IsErr input.new.last }
+fn fill<R: Read>(input: &mut R, buf: &mut [u8]) -> io::Result<usize>
+    ensures { IfOk result (λ n. n ≤ length buf.new) }
 {
-    let len = buf.len();
-    let mut n: usize = 0;
-    while n < len {
-        let got = read_on(input, buf, n);
-        if got.n == 0 {
-            return Got {
-                n: n,
-                failed: got.failed,
-            };
+    let mut n = 0;
+    while n < buf.len() {
+        match input.read(&mut buf[n..])? {
+            0 => break,
+            more => n += more,
         }
-        n += got.n;
     }
-    Got {
-        n: n,
-        failed: false,
-    }
+    Ok(n)
 }
 
-// Whether a piece of the input came whole, or is cut off, or could not be read. Where it may end and nothing came, it is none of these.
-#[derive(Clone, Copy)]
-pub struct Piece {
-    pub go: bool,
-    pub cut: bool,
-    pub failed: bool,
-}
-
+// Whether all the bytes came that were asked for.
 #[tactic(auto, unfolding(crate::specs::Pieces::piece_of))]
-fn came_of(got: Got, wanted: usize, may_end: bool) -> Piece
+fn came_of(got: io::Result<usize>, wanted: usize, may_end: bool) -> Result<(), Stop>
     ensures { result ≡ piece_of got wanted may_end }
 {
-    if got.failed {
-        return Piece {
-            go: false,
-            cut: false,
-            failed: true,
-        };
-    }
-    if got.n == wanted {
-        return Piece {
-            go: true,
-            cut: false,
-            failed: false,
-        };
-    }
-    if got.n == 0 {
-        return Piece {
-            go: false,
-            cut: !may_end,
-            failed: false,
-        };
-    }
-    Piece {
-        go: false,
-        cut: true,
-        failed: false,
+    match got {
+        Err(why) => Err(Stop::Failed(why)),
+        Ok(n) if n == wanted => Ok(()),
+        Ok(0) if may_end => Err(Stop::Over),
+        Ok(_) => Err(Stop::Cut),
     }
 }
 
 // "A missing or wrong version byte" is as a cut-off record.
 #[tactic(auto, unfolding(crate::specs::Pieces::version_of))]
-fn known(came: Piece, version: u8) -> Piece
+fn known(came: Result<(), Stop>, version: u8) -> Result<(), Stop>
     ensures { result ≡ version_of came version }
 {
-    if came.go {
-        if version != 1 {
-            return Piece {
-                go: false,
-                cut: true,
-                failed: false,
-            };
-        }
+    came?;
+    if version != 1 {
+        return Err(Stop::Cut);
     }
-    came
+    Ok(())
 }
 
 // The version byte.
-pub fn next_version<R: Read>(input: &mut Source<R>, one: &mut [u8]) -> Piece
-    ensures version { result.go ≡ true → byte_at one.new 0 ≡ 1 }
-    ensures why { result.failed ≡ true → IsErr input.new.last }
+pub fn next_version<R: Read>(input: &mut R, one: &mut [u8]) -> Result<(), Stop>
+    ensures version { OnOk result (byte_at one.new 0 ≡ 1) }
 {
     let got = fill(input, one);
     let came = came_of(got, 1, false);
     known(came, records::byte(one, 0, 0))
 }
 
-fn at_most(n: usize, most: usize) -> usize
-    ensures { Most n most result }
+// The next record goes to the front of the lent bytes, its two length bytes beside it; the answer is how many bytes it has. The input may end before it.
+pub fn next_record<R: Read>(input: &mut R, two: &mut [u8], rec: &mut [u8]) -> Result<usize, Stop>
+    ensures size_in_bounds { IfOk result (λ size. (size ≤ length rec.new) × (size < too_long)) }
+    ensures size_value { IfOk result (λ size. size ≡ number_at 2 two.new 0) }
 {
-    if n < most {
-        return n;
-    }
-    most
-}
-
-fn size_of(x: u16) -> usize
-    ensures { (result ≡ x) × (result < too_long) }
-{
-    x as usize
-}
-
-// A record, and how many bytes it has.
-#[derive(Clone, Copy)]
-pub struct Record {
-    pub piece: Piece,
-    pub size: usize,
-}
-
-// The next record goes to the front of the lent bytes, its two length bytes beside it. The input may end before it.
-pub fn next_record<R: Read>(input: &mut Source<R>, two: &mut [u8], rec: &mut [u8]) -> Record
-    ensures size_in_bounds { (result.size ≤ length rec.new) × (result.size < too_long) }
-    ensures size_value { result.piece.go ≡ true → result.size ≡ number_at 2 two.new 0 }
-    ensures why { result.piece.failed ≡ true → IsErr input.new.last }
-{
-    let got = fill(input, two);
-    let head = came_of(got, 2, true);
-    if !head.go {
-        return Record {
-            piece: head,
-            size: 0,
-        };
-    }
-    let size = size_of(records::u16_at(two, 0));
-    let n = at_most(size, rec.len());
-    let more = fill(input, &mut rec[..n]);
-    Record {
-        piece: came_of(more, size, false),
-        size: n,
-    }
+    let head = fill(input, two);
+    came_of(head, 2, true)?;
+    let size = usize::from(records::u16_at(two, 0));
+    let n = size.min(rec.len());
+    let body = fill(input, &mut rec[..n]);
+    came_of(body, size, false)?;
+    Ok(n)
 }
 
 // ---- the output
 
-// Whether the lines could be written, and how many bytes were handed over.
-#[derive(Clone, Copy)]
+// Whether the lines could be written, and how many bytes were handed over: kept, since that is promised of a failed write too.
+#[derive(Drop)]
 pub struct Told {
     pub done: io::Result<()>,
     pub size: usize,
@@ -208,9 +93,10 @@ pub struct Told {
 
 // The front of the lent bytes.
 pub fn tell<P: Print>(out: &P, line: &[u8], size: usize) -> Told
-    ensures { size ≤ length line.now → result.size ≡ size }
+    ensures within { result.size ≤ length line.now }
+    ensures all { size ≤ length line.now → result.size ≡ size }
 {
-    let n = at_most(size, line.len());
+    let n = size.min(line.len());
     Told {
         done: out.write_all(&line[..n]),
         size: n,
@@ -221,26 +107,23 @@ pub fn tell<P: Print>(out: &P, line: &[u8], size: usize) -> Told
 
 // The system's words for what failed: std puts its number behind them.
 fn words(text: &[u8]) -> &str {
-    match str::from_utf8(text) {
-        Ok(all) => match all.split_once(" (os error ") {
-            Some((front, _)) => front,
-            None => all,
-        },
-        Err(_) => "",
-    }
+    let all = str::from_utf8(text).unwrap_or("");
+    all.split_once(" (os error ")
+        .map_or(all, |(front, _)| front)
 }
 
 // What failed, and why, in a line on standard error. Who listens no longer is told nothing.
 fn fail<P: Print>(errors: &P, why: io::Error, what: &[u8]) {
-    if why.kind() != ErrorKind::BrokenPipe {
-        let mut text = Cursor::new([0u8; 256]);
-        let _ = write!(text, "{why}");
-        let n = at_most(text.position() as usize, 256);
-        let all = text.into_inner();
-        let front = words(&all[..n]);
-        let _ = errors.write_all(what);
-        let _ = println!(errors; ": {front}");
+    if why.kind() == ErrorKind::BrokenPipe {
+        return;
     }
+    let mut text = Cursor::new([0u8; 256]);
+    let _ = write!(text, "{why}");
+    let n = (text.position() as usize).min(256);
+    let all = text.into_inner();
+    let front = words(&all[..n]);
+    let _ = errors.write_all(what);
+    let _ = println!(errors; ": {front}");
 }
 
 // Where a call failed, that is told. The answer is whether it went well.

@@ -1,17 +1,17 @@
 -- A store stays fit where one instance changes; and a header that shows a view is the only one that does.
-use Rattle.std.specs.Prelude.{◌≡◌, refl, List, [], ◌∷◌, ℕ, zero, suc, ◌+◌, ◌*◌, ◌≤◌, ◌<◌, length, get_or}
+use Rattle.std.specs.Prelude.{◌≡◌, List, [], ◌∷◌, ℕ, zero, suc, ◌+◌, ◌*◌, ◌≤◌, ◌<◌, length, get_or}
 use Rattle.std.proofs.Common.{sym, ap, ◌∙◌, le_of_suc-le-suc, arith}
 use Rattle.lists.specs.Blocks.{put_at, length-put-in}
 use Rattle.slots.specs.FreeLaws.{Whole, view-same}
 use Rattle.slots.specs.declared.Free.{Free}
-use Rattle.keys.specs.declared.Last.{Last}
+use Rattle.keys.specs.Keys.{Last}
 use Rattle.sampleinfo.specs.Counts.{total}
 use Rattle.sampleinfo.specs.Lifecycle.{counts_of}
 use Rattle.sampleinfo.specs.declared.InstanceMetaData.{InstanceMetaData}
 use Rattle.store.specs.Store.{Inst, Store, no_inst, inst_at, with_inst, with_meta, accessed_in}
 use Rattle.store.specs.Fit.{Fit, depth_of}
 use Rattle.index.specs.Words.{put_meta_word}
-use Rattle.index.specs.Memory.{index_of, View, shown, head_of, Tied}
+use Rattle.index.specs.Memory.{View, shown, head_of, Tied}
 use Rattle.index.specs.MemoryLaws.{accessed-store}
 use Rattle.index.specs.declared.Cache.{Cache}
 

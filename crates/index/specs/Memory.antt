@@ -1,10 +1,9 @@
 -- The store as it lies in the header and in the lent words: one content of both for each store.
-use Rattle.std.specs.Prelude.{◌≡◌, List, [], map, ℕ, length, replicate}
+use Rattle.std.specs.Prelude.{None, ◌≡◌, List, [], map, ℕ, length, replicate}
 use Rattle.std.proofs.Math.Option.{Option}
 use Rattle.lists.specs.Blocks.{filled}
 use Rattle.slots.specs.Bits.{bits_of}
-use Rattle.keys.specs.declared.Last.{Last}
-use Rattle.keys.specs.declared.Last.TheVariants as last
+use Rattle.keys.specs.Keys.{Last}
 use Rattle.store.specs.Store.{Inst, Store}
 use Rattle.store.specs.Fit.{Fit, depth_of}
 use Rattle.index.specs.Words.{words, padded, meta_line}
@@ -54,4 +53,4 @@ pub record Held (s : Store) (held : ℕ) (ws : List ℕ) : Type 0 where
 
 -- "An accepted set-up makes the cache fresh"
 abbrev pub fresh_store : Option ℕ → ℕ → Store
-fresh_store keep room = record { keep = keep; room = room; last = last.Never; newest = 256; insts = []; free = replicate 256 1; keys = replicate 256 0; owners = replicate 256 0 }
+fresh_store keep room = record { keep = keep; room = room; last = None; newest = 256; insts = []; free = replicate 256 1; keys = replicate 256 0; owners = replicate 256 0 }

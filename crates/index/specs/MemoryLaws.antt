@@ -1,21 +1,24 @@
 -- What is read in the words of a store, and what a store there makes of it.
-use Rattle.std.specs.Prelude.{◌≡◌, Bool, true, false, cond, ℕ, zero, suc, ◌+◌, ◌*◌, ◌≤◌, ◌<◌, min, take, drop, replicate, ltb, eqb}
+use Rattle.std.specs.Prelude.{◌≡◌, ℕ, ◌+◌, ◌*◌, ◌≤◌, ◌<◌, min, drop, replicate}
 use Rattle.std.proofs.Math.Path.{refl, sym, ap}
-use Rattle.std.proofs.Common.{◌∙◌, mul-le-mul_left, mul-suc, zero-mul, add-zero, arith, lt-ltb, le-ltb, length-set, get_or-take}
-use mathlib.Core.List.{List, [], ◌∷◌, ◌++◌, map}
+use Rattle.std.proofs.Common.{◌∙◌, mul-le-mul_left, mul-suc, zero-mul, add-zero, arith, get_or-take, take-take, lt-ltb, le-ltb}
+use mathlib.Core.List.{List, [], ◌∷◌, map}
 use Rattle.std.proofs.Math.Option.{Option, some, none}
+use Rattle.std.specs.Prelude as rust
+use Rattle.std.specs.Prelude.{Bool, true, false, cond, not, suc, take, ltb, eqb, unwrap_or, ◌==◌}
+use Rattle.std.proofs.Math.Decide.{dec_lt}
+use Rattle.std.specs.List.{position, position_or_len}
 use Rattle.std.proofs.Math.ListN.{length, get_or, set, length-map, get_or-map}
 use Rattle.std.proofs.Math.Seq.{map-set_same}
 use Rattle.lists.specs.Blocks.{filled, Even, put_at, length-filled, filled-get-or, filled_put, even-map, get-map, map-put, put-set}
 use Rattle.sampleinfo.specs.States.{instance_bit}
-use Rattle.sampleinfo.specs.Counts.{disposed_count, no_writers_count, total}
-use Rattle.sampleinfo.specs.Lifecycle.{state_of, counts_of, accessed_of}
+use Rattle.sampleinfo.specs.Lifecycle.{state_of}
 use Rattle.sampleinfo.specs.declared.InstanceMetaData.{InstanceMetaData}
 use Rattle.store.specs.Store.{Inst, Store, place_of, no_inst, inst_at, with_inst, with_meta, with_accessed, accessed_in}
 use Rattle.store.specs.Fit.{Fit, depth_of, Deep}
-use Rattle.index.specs.Words.{region, store, words, padded, meta_line, meta_at, put_meta, put_meta_word, set_meta, put_name, name_index, held_names}
-use Rattle.index.specs.WordLaws.{length-padded, padded-front, padded-put, in-names, in-metas, in_cells, in-keys, in_owners, to-names, to-metas, meta-join, metas-put, meta-back, index_on, index-hit, index-end}
-use Rattle.index.specs.Memory.{name_of, line_of, cells_of, index_of, View, shown, head_of, Tied, Held}
+use Rattle.index.specs.Words.{region, words, padded, meta_line, meta_at, put_meta, put_meta_word, name_index, held_names}
+use Rattle.index.specs.WordLaws.{length-padded, padded-front, in-names, in-metas, in_cells, in-keys, in_owners, to-metas, meta-join, metas-put, meta-back}
+use Rattle.index.specs.Memory.{name_of, line_of, cells_of, index_of, View, Tied, Held}
 use Rattle.index.specs.declared.Cache.{Cache}
 
 -- ---- the keep count
@@ -116,9 +119,31 @@ module _ (s : Store) (f : Fit s) where
 
 -- ---- the search for a name: as the code meets it
 
-unfoldable pub Seeks : List ℕ → ℕ → ℕ → ℕ → Type 0
-unfolding name_index index_of
-Seeks ws held name i = (s : Store) → Held s held ws → i + name_index name (drop i (map name_of s.insts)) ≡ name_index name (map name_of s.insts)
+index-le : (name : ℕ) (ns : List ℕ) → name_index name ns ≤ length ns
+unfolding name_index
+index-le name [] = omega arith
+index-le name (n ∷ ns) = go (eqb n name) (index-le name ns)
+  where
+    go : (b : Bool) → name_index name ns ≤ length ns → cond b 0 (suc (name_index name ns)) ≤ suc (length ns)
+    go true h = omega arith
+    go false h = omega arith
+
+first-is : (name : ℕ) (ns : List ℕ) → position_or_len (λ x. x == name) ns ≡ name_index name ns
+unfolding name_index
+first-is name [] = refl
+first-is name (n ∷ ns) = go (eqb n name) (first-is name ns)
+  where
+    go : (b : Bool) → position_or_len (λ x. x == name) ns ≡ name_index name ns → cond (not b) (1 + position_or_len (λ x. x == name) ns) 0 ≡ cond b 0 (suc (name_index name ns))
+    go true e = refl
+    go false e = omega arith
+
+-- the place of the first that passes, or their number
+first-or-all : (name : ℕ) (ns : List ℕ) → unwrap_or (position (λ x. x == name) ns) (length ns) ≡ name_index name ns
+first-or-all name ns = go (dec_lt (position_or_len (λ x. x == name) ns) (length ns))
+  where
+    go : Dec (position_or_len (λ x. x == name) ns < length ns) → unwrap_or (position (λ x. x == name) ns) (length ns) ≡ name_index name ns
+    go (yes h) = rw (lt-ltb (position_or_len (λ x. x == name) ns) (length ns) h) (first-is name ns)
+    go (no h) = rw (le-ltb (position_or_len (λ x. x == name) ns) (length ns) (omega arith)) (omega (arith, first-is name ns, index-le name ns))
 
 module _ (s : Store) (held : ℕ) (ws : List ℕ) (t : Held s held ws) where
   pub name-is : (i : ℕ) → i < length s.insts → get_or (region 0 32 ws) i 0 ≡ get_or (map name_of s.insts) i 0
@@ -127,32 +152,18 @@ module _ (s : Store) (held : ℕ) (ws : List ℕ) (t : Held s held ws) where
       sym (get_or-take (length s.insts) (region 0 32 ws) i 0 h)
       ∙ rw t.words (ap (λ (l : List ℕ). get_or l i 0) (held-names s t.fit))
 
-  pub rows_are : (rows : ℕ) → rows ≡ min held 32 → rows ≡ length (map name_of s.insts)
-  rows_are rows e = omega (arith, few32 s t.fit, t.count, length-map s.insts name_of)
+  pub names-held : take (min held 32) (region 0 32 ws) ≡ map name_of s.insts
+  unfolding held_names
+  names-held =
+      let rows : min held 32 ≡ length s.insts = omega (arith, t.count, few32 s t.fit) in
+      rw (rows, t.words) (held-names s t.fit)
 
-pub seek-start : (ws : List ℕ) (held name : ℕ) → Seeks ws held name 0
-unfolding Seeks
-seek-start ws held name s t = omega arith
+  pub find-done : (name r : ℕ) (o : rust.Option ℕ) (ns : List ℕ) → r ≡ unwrap_or o (length ns) → o ≡ position (λ x. x == name) ns → ns ≡ take (min held 32) (region 0 32 ws) → r ≡ place_of name s.insts
+  find-done name r o ns p q e = p ∙ rw (q, e, names-held) (first-or-all name (map name_of s.insts)) ∙ place-names name s.insts
 
-module _ (ws : List ℕ) (held name i rows : ℕ) (k : Seeks ws held name i) (n : rows ≡ min held 32) where
-  pub seek-on : (r : ℕ) → i < rows → r ≡ get_or (region 0 32 ws) i 0 → (r ≡ name → ⊥) → Seeks ws held name (i + 1)
-  unfolding Seeks
-  seek-on r h e m s t =
-      let l : i < length (map name_of s.insts) = omega (arith, rows_are s held ws t rows n) in
-      let q : get_or (region 0 32 ws) i 0 ≡ get_or (map name_of s.insts) i 0 = name-is s held ws t i (omega (arith, length-map s.insts name_of)) in
-      sym (index_on name (map name_of s.insts) i l (λ z. m (e ∙ q ∙ z))) ∙ k s t
-
-  pub seek_hit : (r : ℕ) → i < rows → r ≡ get_or (region 0 32 ws) i 0 → r ≡ name → (s : Store) → Held s held ws → i ≡ place_of name s.insts
-  unfolding Seeks
-  seek_hit r h e m s t =
-      let l : i < length (map name_of s.insts) = omega (arith, rows_are s held ws t rows n) in
-      let q : get_or (region 0 32 ws) i 0 ≡ get_or (map name_of s.insts) i 0 = name-is s held ws t i (omega (arith, length-map s.insts name_of)) in
-      sym (index-hit name (map name_of s.insts) i l (sym q ∙ sym e ∙ m)) ∙ k s t ∙ place-names name s.insts
-
-  pub seek-end : i ≤ rows → rows ≤ i → (s : Store) → Held s held ws → rows ≡ place_of name s.insts
-  unfolding Seeks
-  seek-end h m s t =
-      omega (arith, k s t, index-end name (map name_of s.insts) i (omega (arith, rows_are s held ws t rows n)), place-names name s.insts)
+pub names-part : (ws : List ℕ) (held rows : ℕ) → rows ≡ min held 32 → take rows ws ≡ take (min held 32) (region 0 32 ws)
+unfolding region
+names-part ws held rows e = rw e (sym (take-take (min held 32) 32 ws (omega arith)))
 
 pub held_of : (s : Store) (h : Cache) (ws : List ℕ) → Tied s h ws → Held s h.held ws
 held_of s h ws t = record { fit = t.fit; count = ap (λ (v : View). v.held) t.head; words = t.words }

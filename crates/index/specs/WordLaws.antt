@@ -1,14 +1,14 @@
 -- Loads and stores as the code meets them, and what they make of words that are five regions.
-use Rattle.std.specs.Prelude.{◌≡◌, Bool, true, false, List, [], ◌∷◌, ◌++◌, ℕ, zero, suc, ◌+◌, ◌-◌, ◌*◌, ◌%◌, ◌≤◌, ◌<◌, min, get_or, take, drop, ltb, eqb}
+use Rattle.std.specs.Prelude.{◌≡◌, List, [], ◌∷◌, ◌++◌, ℕ, suc, ◌+◌, ◌-◌, ◌*◌, ◌%◌, ◌≤◌, ◌<◌, get_or, take, drop, ltb}
 use Rattle.std.proofs.Math.Path.{refl, sym}
-use Rattle.std.proofs.Common.{ap, ◌∙◌, append_assoc, mul-suc, eq-or-lt_of_le, add-zero, zero-mul, add-one, arith, length-set, length-append, length-drop, drop_of_length-le, get_or-take, drop-cons, take_all}
+use Rattle.std.proofs.Common.{ap, ◌∙◌, append_assoc, mul-suc, eq-or-lt_of_le, add-zero, zero-mul, add-one, arith, length-set, length-append, length-drop, get_or-take, take_all}
 use Rattle.std.proofs.Math.Bool.{cond}
 use Rattle.std.proofs.Math.Logic.{⊎_elim}
 use Rattle.std.proofs.Math.Nat.{zero-add, sub-zero}
 use Rattle.std.proofs.Math.Decide.{dec_lt}
-use borrow.Author.Tests.{lt-ltb, le-ltb, eq-eqb, ne_eqb}
+use borrow.Author.Tests.{lt-ltb, le-ltb}
 use Rattle.std.proofs.Math.ListN.{length, set, replicate, length-take, get_or-eq_default}
-use Rattle.std.proofs.lemmas.List.{length-replicate, take-append-le}
+use Rattle.std.proofs.lemmas.List.{length-replicate}
 use Rattle.std.proofs.Math.Seq.{take_at, drop_at, get_or-drop, set_out, drop-append-add, set-append_left, set-append_seam}
 use Rattle.lists.specs.Blocks.{flat, length-flat, filled, Even, put_at, filled_put, filled-get-or, length-filled, even-put, even-at, get-put, put-put, put-set, put-end, put_same, filled_more, length-put-in, length-put-end, set-append-add}
 use Rattle.lists.specs.Regions.{join, set_a, set_b, set-c, set-d}
@@ -19,7 +19,7 @@ use Rattle.sampleinfo.specs.Lifecycle.{meta, state_of, counts_of, accessed_of, n
 use Rattle.sampleinfo.specs.declared.InstanceState.{InstanceState}
 use Rattle.sampleinfo.specs.declared.InstanceState.TheVariants.{Alive}
 use Rattle.sampleinfo.specs.declared.InstanceMetaData.{InstanceMetaData}
-use Rattle.index.specs.Words.{region, store, words, padded, meta_line, meta_of, meta_at, put_meta, set_meta, put_meta_word, put_slot, name_index, held_names}
+use Rattle.index.specs.Words.{region, store, words, padded, meta_line, meta_of, meta_at, put_meta, set_meta, put_meta_word, put_slot}
 
 -- ---- as the code meets them: the answer on the left
 
@@ -290,19 +290,3 @@ module _ (n : ℕ) (l : List ℕ) (few : length l ≤ n) where
           let r : n - length l ≡ suc (n - (length l + 1)) = omega arith in
           rw (q, length-put-end l v, r, set-append_seam l 0 (replicate (n - (length l + 1)) 0) v, put-end l v 0, set-append_seam l 0 [] v)
           (sym (append_assoc l (v ∷ []) (replicate (n - (length l + 1)) 0)))
-
-module _ (name : ℕ) (l : List ℕ) (i : ℕ) (h : i < length l) where
-  front : drop i l ≡ get_or l i 0 ∷ drop (i + 1) l
-  front = rw (add-one, drop-cons l i 0 h)
-
-  pub index-hit : get_or l i 0 ≡ name → i + name_index name (drop i l) ≡ i
-  unfolding name_index
-  index-hit e = rw (front, eq-eqb (get_or l i 0) name e) (omega arith)
-
-  pub index_on : (get_or l i 0 ≡ name → ⊥) → i + name_index name (drop i l) ≡ i + 1 + name_index name (drop (i + 1) l)
-  unfolding name_index
-  index_on e = rw (front, ne_eqb (get_or l i 0) name e) (omega arith)
-
-pub index-end : (name : ℕ) (l : List ℕ) (i : ℕ) → length l ≤ i → name_index name (drop i l) ≡ 0
-unfolding name_index
-index-end name l i h = rw (drop_of_length-le l {i = i} h)

@@ -1,6 +1,7 @@
 -- The lent words: five regions one behind the other, what is read in a region and what a store in it makes; the words of an instance record.
 use Rattle.std.specs.Prelude.{cond, List, [], ◌∷◌, ◌++◌, ℕ, suc, ◌+◌, ◌-◌, ◌*◌, ◌%◌, length, get_or, set, take, drop, replicate, ltb, eqb}
 use Rattle.lists.specs.Regions.{join}
+pub use Rattle.slots.specs.Bits.{slot_in}
 use Rattle.sampleinfo.specs.States.{instance_bit, instance_of_bit}
 use Rattle.sampleinfo.specs.Counts.{counts, disposed_count, no_writers_count}
 use Rattle.sampleinfo.specs.Lifecycle.{meta, state_of, counts_of, accessed_of}

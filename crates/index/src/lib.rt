@@ -10,16 +10,17 @@
 //      672    256  OWNERS  the row of its instance; 0 in a free one
 #![tactic(auto)]
 
-ghost use Rattle.std.specs.Prelude.{◌≡◌, ◌+◌, ◌*◌, ◌%◌, ◌<◌, min, get_or};
+ghost use Rattle.std.specs.Prelude.{◌≡◌, ◌+◌, ◌*◌, ◌%◌, ◌<◌, ◌≤◌, ◌⊎◌, MatchOption, min, get_or, take, ◌==◌};
+ghost use Rattle.std.specs.List.{position};
 ghost use Rattle.store.specs.Store.{Store, place_of};
-ghost use Rattle.index.specs.Words.{names_in, metas_in, cells_in, keys_in, owners_in, put_name, put_cell, put_key, put_owner, put_slot, meta_at, put_meta, put_meta_word};
+ghost use Rattle.index.specs.Words.{region, store, names_in, metas_in, cells_in, keys_in, owners_in, put_name, put_cell, put_slot, meta_at, put_meta, put_meta_word};
 ghost use Rattle.index.specs.Memory.{Held};
 
-use keys::Last;
-use sampleinfo::{InstanceMetaData, InstanceState, NotAliveGenerationCounts};
+use sampleinfo::{InstanceMetaData, InstanceState, NotAliveGenerationCounts, State};
 use slots::Free;
 
 // What a cache holds beside the lent words.
+// Kept: 0 for no keep count and 256 for no slot, as in the definitions that the header is compared with.
 #[derive(Clone, Copy)]
 pub struct Cache {
     // how many cells each instance has: the keep count, or 0 where there is none
@@ -27,7 +28,7 @@ pub struct Cache {
     // how many instances are allowed, and how many are held
     pub room: usize,
     pub held: usize,
-    pub last: Last,
+    pub last: Option<u64>,
     // the slot of the last accepted sample while that is live, else 256
     pub newest: usize,
     pub free: Free,
@@ -47,110 +48,135 @@ impl Cache {
     pub const KEYS: usize = 416;
 
     pub const OWNERS: usize = 672;
+
     // How many instances and slots there can be.
     pub const ROWS: usize = 32;
 
     pub const SLOTS: usize = 256;
+
+    // How many words the instance records have.
+    const LINES: usize = 128;
+}
+
+// The cells of a row: as many as the keep count, oldest first.
+#[derive(Clone, Copy)]
+pub struct Window {
+    depth: usize,
+    row: usize,
+    ghost inside: { (depth ≤ 256) × (row < 32) },
+}
+
+impl Window {
+    // None where no store has one.
+    pub fn of(depth: usize, row: usize) -> Option<Window>
+        ensures { MatchOption result ((256 < depth) ⊎ (32 ≤ row)) (λ w. (w.depth ≡ depth) × (w.row ≡ row)) }
+    {
+        if Cache::SLOTS < depth || Cache::ROWS <= row {
+            None
+        } else {
+            Some(Window { depth, row })
+        }
+    }
+
+    pub fn depth(self) -> usize
+        ensures { (result ≡ self.depth) × (result ≤ 256) }
+    {
+        self.depth
+    }
+
+    pub fn row(self) -> usize
+        ensures { (result ≡ self.row) × (result < 32) }
+    {
+        self.row
+    }
+
+    // The place of its first cell among all cells.
+    pub fn first(self) -> usize
+        ensures { (result ≡ self.depth * self.row) × (result ≤ 8192) }
+    {
+        let Window { depth, row, .. } = self;
+        depth * row
+    }
 }
 
 // ---- words by region; past the region's end there is 0, and a store there changes nothing
 
-pub fn name_at(ws: &[u64; 928], row: usize) -> u64
+// A word of the region of LEN words from FROM on.
+fn word_at<const FROM: usize, const LEN: usize>(ws: &[u64; Cache::WORDS], i: usize) -> u64
+    requires { FROM + LEN ≤ 928 }
+    ensures { result ≡ get_or (region FROM LEN ws.now) i 0 }
+{
+    if i < LEN { ws[FROM + i] } else { 0 }
+}
+
+fn put_word<const FROM: usize, const LEN: usize>(ws: &mut [u64; Cache::WORDS], i: usize, word: u64)
+    requires { FROM + LEN ≤ 928 }
+    ensures { ws.new ≡ store FROM LEN ws.old i word }
+{
+    if i < LEN {
+        ws[FROM + i] = word;
+    }
+}
+
+pub fn name_at(ws: &[u64; Cache::WORDS], row: usize) -> u64
     ensures { result ≡ get_or (names_in ws.now) row 0 }
 {
-    if row < Cache::ROWS {
-        return ws[Cache::NAMES + row];
-    }
-    0
+    word_at::<{ Cache::NAMES }, { Cache::ROWS }>(ws, row)
 }
 
-pub fn put_name(ws: &mut [u64; 928], row: usize, name: u64)
+pub fn put_name(ws: &mut [u64; Cache::WORDS], row: usize, name: u64)
     ensures { ws.new ≡ put_name ws.old row name }
 {
-    if row < Cache::ROWS {
-        ws[Cache::NAMES + row] = name;
-    }
+    put_word::<{ Cache::NAMES }, { Cache::ROWS }>(ws, row, name);
 }
 
-fn meta_word(ws: &[u64; 928], i: usize) -> u64
+fn meta_word(ws: &[u64; Cache::WORDS], i: usize) -> u64
     ensures { result ≡ get_or (metas_in ws.now) i 0 }
 {
-    if i < 128 {
-        return ws[Cache::METAS + i];
-    }
-    0
+    word_at::<{ Cache::METAS }, { Cache::LINES }>(ws, i)
 }
 
-fn put_meta_word(ws: &mut [u64; 928], i: usize, word: u64)
+fn put_meta_word(ws: &mut [u64; Cache::WORDS], i: usize, word: u64)
     ensures { ws.new ≡ put_meta_word ws.old i word }
 {
-    if i < 128 {
-        ws[Cache::METAS + i] = word;
-    }
+    put_word::<{ Cache::METAS }, { Cache::LINES }>(ws, i, word);
 }
 
-pub fn cell_at(ws: &[u64; 928], i: usize) -> u64
+pub fn cell_at(ws: &[u64; Cache::WORDS], i: usize) -> u64
     ensures { result ≡ get_or (cells_in ws.now) i 0 }
 {
-    if i < 256 {
-        return ws[Cache::CELLS + i];
-    }
-    0
+    word_at::<{ Cache::CELLS }, { Cache::SLOTS }>(ws, i)
 }
 
-pub fn put_cell(ws: &mut [u64; 928], i: usize, cell: u64)
+pub fn put_cell(ws: &mut [u64; Cache::WORDS], i: usize, cell: u64)
     ensures { ws.new ≡ put_cell ws.old i cell }
 {
-    if i < 256 {
-        ws[Cache::CELLS + i] = cell;
-    }
+    put_word::<{ Cache::CELLS }, { Cache::SLOTS }>(ws, i, cell);
 }
 
-pub fn key_at(ws: &[u64; 928], slot: usize) -> u64
+pub fn key_at(ws: &[u64; Cache::WORDS], slot: usize) -> u64
     ensures { result ≡ get_or (keys_in ws.now) slot 0 }
 {
-    if slot < Cache::SLOTS {
-        return ws[Cache::KEYS + slot];
-    }
-    0
+    word_at::<{ Cache::KEYS }, { Cache::SLOTS }>(ws, slot)
 }
 
-fn put_key(ws: &mut [u64; 928], slot: usize, key: u64)
-    ensures { ws.new ≡ put_key ws.old slot key }
-{
-    if slot < Cache::SLOTS {
-        ws[Cache::KEYS + slot] = key;
-    }
-}
-
-pub fn owner_at(ws: &[u64; 928], slot: usize) -> u64
+pub fn owner_at(ws: &[u64; Cache::WORDS], slot: usize) -> u64
     ensures { result ≡ get_or (owners_in ws.now) slot 0 }
 {
-    if slot < Cache::SLOTS {
-        return ws[Cache::OWNERS + slot];
-    }
-    0
-}
-
-fn put_owner(ws: &mut [u64; 928], slot: usize, row: u64)
-    ensures { ws.new ≡ put_owner ws.old slot row }
-{
-    if slot < Cache::SLOTS {
-        ws[Cache::OWNERS + slot] = row;
-    }
+    word_at::<{ Cache::OWNERS }, { Cache::SLOTS }>(ws, slot)
 }
 
 // The slot's key and the row of its instance.
-pub fn put_slot(ws: &mut [u64; 928], slot: usize, key: u64, row: usize)
+pub fn put_slot(ws: &mut [u64; Cache::WORDS], slot: usize, key: u64, row: usize)
     ensures { ws.new ≡ put_slot ws.old slot key row }
 {
-    put_key(ws, slot, key);
-    put_owner(ws, slot, row as u64);
+    put_word::<{ Cache::KEYS }, { Cache::SLOTS }>(ws, slot, key);
+    put_word::<{ Cache::OWNERS }, { Cache::SLOTS }>(ws, slot, row as u64);
 }
 
 // ---- the instance record of a row, in four words
 
-// A count has the low half of its word.
+// A count has the low half of its word. Kept: `as` loses nothing here, and the library has no cast that truncates.
 fn count_of(word: u64) -> u32
     ensures { result ≡ word % 4294967296 }
 {
@@ -158,43 +184,39 @@ fn count_of(word: u64) -> u32
 }
 
 // Past the last row a new instance's record.
-pub fn meta_at(ws: &[u64; 928], row: usize) -> InstanceMetaData
+// Kept: four words by their places; a slice pattern would want an arm for slices of other lengths.
+pub fn meta_at(ws: &[u64; Cache::WORDS], row: usize) -> InstanceMetaData
     ensures { result ≡ meta_at (metas_in ws.now) row }
 {
     if Cache::ROWS <= row {
         return InstanceMetaData::new(InstanceState::Alive);
     }
     let i = 4 * row;
-    let state = InstanceState::of_bit(meta_word(ws, i));
-    let disposed = count_of(meta_word(ws, i + 1));
-    let no_writers = count_of(meta_word(ws, i + 2));
     InstanceMetaData {
-        instance_state: state,
+        instance_state: InstanceState::from(meta_word(ws, i)),
         latest_generation_available: NotAliveGenerationCounts {
-            disposed_generation_count: disposed,
-            no_writers_generation_count: no_writers,
+            disposed_generation_count: count_of(meta_word(ws, i + 1)),
+            no_writers_generation_count: count_of(meta_word(ws, i + 2)),
         },
         last_generation_accessed: meta_word(ws, i + 3),
     }
 }
 
-pub fn put_meta(ws: &mut [u64; 928], row: usize, x: InstanceMetaData)
+pub fn put_meta(ws: &mut [u64; Cache::WORDS], row: usize, x: InstanceMetaData)
     ensures { ws.new ≡ put_meta ws.old row x }
 {
-    if Cache::ROWS <= row {
-        return;
+    if row < Cache::ROWS {
+        let i = 4 * row;
+        let counts = x.latest_generation_available;
+        put_meta_word(ws, i, x.instance_state.bit() as u64);
+        put_meta_word(ws, i + 1, counts.disposed_generation_count as u64);
+        put_meta_word(ws, i + 2, counts.no_writers_generation_count as u64);
+        put_meta_word(ws, i + 3, x.last_generation_accessed);
     }
-    let i = 4 * row;
-    let state = x.instance_state;
-    let counts = x.latest_generation_available;
-    put_meta_word(ws, i, state.bit() as u64);
-    put_meta_word(ws, i + 1, counts.disposed_generation_count as u64);
-    put_meta_word(ws, i + 2, counts.no_writers_generation_count as u64);
-    put_meta_word(ws, i + 3, x.last_generation_accessed);
 }
 
 // What was last accessed of the row's instance.
-pub fn set_accessed(ws: &mut [u64; 928], row: usize, accessed: u64)
+pub fn set_accessed(ws: &mut [u64; Cache::WORDS], row: usize, accessed: u64)
     ensures { ws.new ≡ put_meta_word ws.old (4 * row + 3) accessed }
 {
     if row < Cache::ROWS {
@@ -208,23 +230,26 @@ pub fn set_accessed(ws: &mut [u64; 928], row: usize, accessed: u64)
 pub fn rows_held(held: usize) -> usize
     ensures { result ≡ min held 32 }
 {
-    if held < Cache::ROWS {
-        return held;
-    }
-    Cache::ROWS
+    held.min(Cache::ROWS)
+}
+
+// The names of the rows held, in order of arrival.
+pub fn names(ws: &[u64; Cache::WORDS], held: usize) -> &[u64]
+    ensures { result.now ≡ take (min held 32) (names_in ws.now) }
+{
+    &ws[Cache::NAMES..Cache::NAMES + rows_held(held)]
+}
+
+fn place_in(names: &[u64], name: u64) -> Option<usize>
+    ensures { result ≡ position (λ x. x == name) names.now }
+{
+    names.iter().position(|held| *held == name)
 }
 
 // The row of the name, or the number of rows held.
-pub fn find(ws: &[u64; 928], held: usize, name: u64) -> usize
+pub fn find(ws: &[u64; Cache::WORDS], held: usize, name: u64) -> usize
     ensures { (s : Store) → Held s held ws.now → result ≡ place_of name s.insts }
 {
-    let rows = rows_held(held);
-    let mut i = 0;
-    while i < rows {
-        if name_at(ws, i) == name {
-            return i;
-        }
-        i += 1;
-    }
-    rows
+    let names = names(ws, held);
+    place_in(names, name).unwrap_or(names.len())
 }

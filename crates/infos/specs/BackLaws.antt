@@ -6,23 +6,19 @@ use mathlib.Core.List.{List, [], ◌∷◌, ◌++◌, append_assoc}
 use Prim.Native.Nat.{ℕ, suc, ◌+◌, ◌*◌, ◌%◌, ◌<◌, ◌^◌}
 use Rattle.std.proofs.Math.ListN.{drop}
 use Rattle.std.proofs.Math.Seq.{take_at, drop_at, drop-drop}
-use Rattle.sampleinfo.specs.States.{sample_bit, view_bit, kind_of, handle_of}
-use Rattle.sampleinfo.specs.StateLaws.{of-bit-bit}
+use Rattle.sampleinfo.specs.States.{kind_of, handle_of}
+use Rattle.sampleinfo.specs.StateLaws.{sample-back, view-back, of-bit-bit}
 use Rattle.sampleinfo.specs.Counts.{counts, total, disposed_count, no_writers_count}
 use Rattle.sampleinfo.specs.Samples.{total_of}
 use Rattle.sampleinfo.specs.declared.NotAliveGenerationCounts.{NotAliveGenerationCounts}
 use Rattle.sampleinfo.specs.declared.InstanceMetaData.{InstanceMetaData}
-use Rattle.sampleinfo.specs.declared.SampleState.{SampleState}
-use Rattle.sampleinfo.specs.declared.SampleState.TheVariants.{Read, NotRead}
-use Rattle.sampleinfo.specs.declared.ViewState.{ViewState}
-use Rattle.sampleinfo.specs.declared.ViewState.TheVariants.{New, NotNew}
 use Rattle.sampleinfo.specs.declared.Body.{Body}
 use Rattle.sampleinfo.specs.declared.Body.TheVariants.{Value, Dispose}
 use Rattle.sampleinfo.specs.declared.Sample.{Sample}
 use Rattle.sampleinfo.specs.declared.Info.{Info}
 use Rattle.infos.specs.declared.Ranking.{Ranking}
 use Rattle.infos.specs.Infos.{ranks_from, info_from}
-use Rattle.infos.specs.Words.{body_of_words, sample_of_bit, view_of_bit, bytes_of, writer_words, info_words, Typed, places_in, laid, put_info, info_in, get_info}
+use Rattle.infos.specs.Words.{body_of_words, bytes_of, writer_words, info_words, Typed, places_in, laid, put_info, info_in, get_info}
 use Rattle.infos.specs.RankLaws.{rank-back, mag-rank}
 use Rattle.infos.specs.PutLaws.{writer-is}
 
@@ -34,14 +30,6 @@ low n h = omega arith
 body_back : (b : Body) → handle_of b < 2 ^ 32 → body_of_words (kind_of b) (handle_of b % 2 ^ 32) ≡ b
 body_back (Value h) k = ap Value (low h k)
 body_back (Dispose h) k = ap Dispose (low h k)
-
-sample-back : (s : SampleState) → sample_of_bit (sample_bit s) ≡ s
-sample-back Read = refl
-sample-back NotRead = refl
-
-view-back : (v : ViewState) → view_of_bit (view_bit v) ≡ v
-view-back New = refl
-view-back NotNew = refl
 
 counts-back : (c : NotAliveGenerationCounts) → disposed_count c < 2 ^ 32 → no_writers_count c < 2 ^ 32 → counts (disposed_count c % 2 ^ 32) (no_writers_count c % 2 ^ 32) ≡ c
 counts-back c h k = λ i. counts (low (disposed_count c) h i) (low (no_writers_count c) k i)

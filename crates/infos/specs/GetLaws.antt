@@ -2,41 +2,20 @@
 use Rattle.std.specs.Prelude.{◌≡◌, List, ℕ, ◌+◌, ◌*◌, ◌%◌, ◌≤◌, ◌<◌, length, get_or, take, drop, set, replicate, ℤ}
 use Rattle.std.proofs.Common.{◌∙◌, append-nil, arith, length-drop, get_or-take, get_or-drop, length-take-le, SFits, to_z, of_z}
 use Rattle.std.proofs.Math.Nat.{zero-add}
-use borrow.Author.Tests.{lt-ltb, le-ltb, ne_eqb}
+use borrow.Author.Tests.{lt-ltb, le-ltb}
 use Rattle.std.proofs.lemmas.List.{length-map}
 use Rattle.std.proofs.Math.ListN.{get_or-map}
 use Rattle.std.specs.Int.{w64}
 use Rattle.std.proofs.Math.Facts.{to_z-of_z}
-use Rattle.sampleinfo.specs.States.{instance_of_bit}
+use Rattle.sampleinfo.specs.States.{sample_of_bit, view_of_bit, instance_of_bit}
 use Rattle.sampleinfo.specs.declared.NotAliveGenerationCounts.{NotAliveGenerationCounts}
 use Rattle.sampleinfo.specs.declared.SampleState.{SampleState}
-use Rattle.sampleinfo.specs.declared.SampleState.TheVariants.{Read, NotRead}
 use Rattle.sampleinfo.specs.declared.ViewState.{ViewState}
-use Rattle.sampleinfo.specs.declared.ViewState.TheVariants.{New, NotNew}
 use Rattle.sampleinfo.specs.declared.InstanceState.{InstanceState}
 use Rattle.sampleinfo.specs.declared.Body.{Body}
-use Rattle.sampleinfo.specs.declared.Body.TheVariants.{Value, Dispose}
 use Rattle.sampleinfo.specs.declared.Info.{Info}
-use Rattle.infos.specs.Words.{rank_of_word, body_of_words, sample_of_bit, view_of_bit, bytes_of, counts_in, places_in, laid, info_in, no_info, get_info}
+use Rattle.infos.specs.Words.{rank_of_word, body_of_words, bytes_of, counts_in, places_in, laid, info_in, no_info, get_info}
 use Rattle.infos.specs.PutLaws.{copied, copied-start, copied-turn, copied-end}
-
-pub body-dispose : (k h : ℕ) → k ≡ 2 → Dispose h ≡ body_of_words k h
-body-dispose k h e = rw e
-
-pub body-value : (k h : ℕ) → (k ≡ 2 → ⊥) → Value h ≡ body_of_words k h
-body-value k h e = rw (ne_eqb k 2 e)
-
-pub bit-read : (b : ℕ) → b ≡ 1 → Read ≡ sample_of_bit b
-bit-read b e = rw e
-
-pub bit-not-read : (b : ℕ) → (b ≡ 1 → ⊥) → NotRead ≡ sample_of_bit b
-bit-not-read b e = rw (ne_eqb b 1 e)
-
-pub bit-new : (b : ℕ) → b ≡ 1 → New ≡ view_of_bit b
-bit-new b e = rw e
-
-pub bit-not-new : (b : ℕ) → (b ≡ 1 → ⊥) → NotNew ≡ view_of_bit b
-bit-not-new b e = rw (ne_eqb b 1 e)
 
 -- ---- the writer's bytes, one by one
 
@@ -90,10 +69,11 @@ module _ (l : List ℕ) (at : ℕ) (b : Body) (s : SampleState) (v : ViewState) 
   got p q r t u y m f n k = rw (p, q, r, t, u, y, to_z-of_z f, to_z-of_z k, m, n)
 
 module _ (l : List ℕ) (p : ℕ) (x : Info) where
-  pub get-here : x ≡ info_in l (27 * p) → p < places_in l → x ≡ get_info l p
+  -- room: how many the code finds place for
+  pub get_here : (room : ℕ) → x ≡ info_in l (27 * p) → room ≡ places_in l → p < room → x ≡ get_info l p
   unfolding get_info
-  get-here e h = rw (e, lt-ltb p (places_in l) h)
+  get_here room e r h = rw (e, ← r, lt-ltb p room h)
 
-  pub get-past : x ≡ no_info → places_in l ≤ p → x ≡ get_info l p
+  pub get_past : (room : ℕ) → x ≡ no_info → room ≡ places_in l → room ≤ p → x ≡ get_info l p
   unfolding get_info
-  get-past e h = rw (e, le-ltb p (places_in l) h)
+  get_past room e r h = rw (e, ← r, le-ltb p room h)

@@ -1,14 +1,12 @@
 -- The info of a sample and the ranks of its place, as the code meets them; and they are the model's.
-use Rattle.std.specs.Prelude.{◌≡◌, List, ℕ, ◌≤◌, ◌<◌, ℤ, length}
-use Rattle.std.proofs.Common.{lt-ltb, le-ltb}
-use Rattle.sampleinfo.specs.Counts.{total, accessed_at}
+use Rattle.std.specs.Prelude.{◌≡◌, List, ℕ, ℤ, length}
+use Rattle.sampleinfo.specs.Counts.{total}
 use Rattle.sampleinfo.specs.Lifecycle.{state_of, accessed_of}
 use Rattle.sampleinfo.specs.Samples.{sample_state_of, total_of}
 use Rattle.sampleinfo.specs.declared.NotAliveGenerationCounts.{NotAliveGenerationCounts}
 use Rattle.sampleinfo.specs.declared.InstanceMetaData.{InstanceMetaData}
 use Rattle.sampleinfo.specs.declared.SampleState.{SampleState}
 use Rattle.sampleinfo.specs.declared.ViewState.{ViewState}
-use Rattle.sampleinfo.specs.declared.ViewState.TheVariants.{New, NotNew}
 use Rattle.sampleinfo.specs.declared.Sample.{Sample}
 use Rattle.sampleinfo.specs.declared.Ranks.{Ranks}
 use Rattle.sampleinfo.specs.declared.Info.{Info}
@@ -17,12 +15,6 @@ use Rattle.model.specs.Views.{view_of, rank_from}
 use Rattle.model.specs.Model.{Model, Instance, Live, lives, latest, latest_total, last_total, by_the_rust, ranks_at, info_of}
 use Rattle.infos.specs.declared.Ranking.{Ranking}
 use Rattle.infos.specs.Infos.{ranks_from, info_from}
-
-pub view-new : (t x accessed : ℕ) → x ≡ accessed_at t → accessed < x → New ≡ view_of accessed t
-view-new t x accessed e h = rw (← e, lt-ltb accessed x h)
-
-pub view-not-new : (t x accessed : ℕ) → x ≡ accessed_at t → x ≤ accessed → NotNew ≡ view_of accessed t
-view-not-new t x accessed e h = rw (← e, le-ltb accessed x h)
 
 -- what the callees answer makes the ranks
 pub ranked : (l : Ranking) (follow : ℕ) (counts : NotAliveGenerationCounts) (g a : ℤ) → g ≡ rank_from (total l.mrsic_generations) (total counts) → a ≡ rank_from (total l.mrs_generations) (total counts)

@@ -87,14 +87,15 @@ writer-is w e = take_at w (replicate 16 0) 16 e
 -- ---- the whole info
 
 module _ (l : List ℕ) (p : ℕ) (x : Info) where
-  pub put-done : (m n : List ℕ) → n ≡ laid m (27 * p + 11) x.publication_handle → m ≡ laid l (27 * p) (head_words x)
-      → length x.publication_handle ≡ 16 → p < places_in l → n ≡ put_info l p x
+  -- room: how many the code finds place for
+  pub put_done : (m n : List ℕ) (room : ℕ) → n ≡ laid m (27 * p + 11) x.publication_handle → m ≡ laid l (27 * p) (head_words x)
+      → length x.publication_handle ≡ 16 → room ≡ places_in l → p < room → n ≡ put_info l p x
   unfolding put_info info_words
-  put-done m n e q w h =
+  put_done m n room e q w r h =
       e ∙ ap (λ (k : List ℕ). laid k (27 * p + 11) x.publication_handle) q
       ∙ laid-laid l (27 * p) (head_words x) x.publication_handle (omega arith)
-      ∙ rw (lt-ltb p (places_in l) h, writer-is x.publication_handle w)
+      ∙ rw (← r, lt-ltb p room h, writer-is x.publication_handle w)
 
-  pub put-kept : places_in l ≤ p → l ≡ put_info l p x
+  pub put_kept : (room : ℕ) → room ≡ places_in l → room ≤ p → l ≡ put_info l p x
   unfolding put_info
-  put-kept h = rw (le-ltb p (places_in l) h)
+  put_kept room r h = rw (← r, le-ltb p room h)

@@ -3,13 +3,11 @@
 use Rattle.std.specs.Prelude.{cond, List, [], ◌∷◌, ◌++◌, map, ◌≡◌, ℕ, suc, ◌+◌, ◌-◌, ◌*◌, ◌/◌, ◌%◌, ◌^◌, ◌<◌, ltb, eqb, length, get_or, take, drop, replicate, ℤ, pos, negsuc}
 use Rattle.std.specs.Int.{w64}
 use Rattle.std.proofs.Common.{SFits}
-use Rattle.sampleinfo.specs.States.{sample_bit, view_bit, instance_bit, instance_of_bit, kind_of, handle_of}
+use Rattle.sampleinfo.specs.States.{sample_bit, sample_of_bit, view_bit, view_of_bit, instance_bit, instance_of_bit, kind_of, handle_of}
 use Rattle.sampleinfo.specs.Counts.{counts, zero, disposed_count, no_writers_count}
 use Rattle.sampleinfo.specs.declared.NotAliveGenerationCounts.{NotAliveGenerationCounts}
-use Rattle.sampleinfo.specs.declared.SampleState.{SampleState}
-use Rattle.sampleinfo.specs.declared.SampleState.TheVariants.{Read, NotRead}
-use Rattle.sampleinfo.specs.declared.ViewState.{ViewState}
-use Rattle.sampleinfo.specs.declared.ViewState.TheVariants.{New, NotNew}
+use Rattle.sampleinfo.specs.declared.SampleState.TheVariants.{NotRead}
+use Rattle.sampleinfo.specs.declared.ViewState.TheVariants.{NotNew}
 use Rattle.sampleinfo.specs.declared.InstanceState.TheVariants.{Alive}
 use Rattle.sampleinfo.specs.declared.Body.{Body}
 use Rattle.sampleinfo.specs.declared.Body.TheVariants.{Value, Dispose}
@@ -49,12 +47,6 @@ rank_of_word w = cond (ltb w (2 ^ 63)) (pos w) (negsuc (2 ^ 64 - suc w))
 
 abbrev pub body_of_words : ℕ → ℕ → Body
 body_of_words kind handle = cond (eqb kind 2) (Dispose handle) (Value handle)
-
-abbrev pub sample_of_bit : ℕ → SampleState
-sample_of_bit b = cond (eqb b 1) Read NotRead
-
-abbrev pub view_of_bit : ℕ → ViewState
-view_of_bit b = cond (eqb b 1) New NotNew
 
 abbrev pub bytes_of : List ℕ → List ℕ
 bytes_of ws = map (λ w. w % 256) ws

@@ -5,11 +5,11 @@ ghost use Rattle.std.specs.Prelude.{◌≡◌, ◌+◌, ◌≤◌, length, take,
 ghost use Rattle.sampleinfo.specs.Counts.{total};
 ghost use Rattle.model.specs.Views.{view_of, rank_from};
 ghost use Rattle.infos.specs.Infos.{ranks_from, info_from};
-ghost use Rattle.infos.specs.Words.{word_of_rank, rank_of_word, body_of_words, sample_of_bit, view_of_bit, state_words, rank_words, head_words, bytes_of, counts_in, places_in, laid, put_info, info_in, no_info, get_info};
+ghost use Rattle.infos.specs.Words.{body_of_words, state_words, rank_words, head_words, bytes_of, counts_in, places_in, laid, put_info, info_in, no_info, get_info};
 
 use sampleinfo::{
     Body, Info, InstanceMetaData, InstanceState, NotAliveGenerationCounts, Ranks, Sample,
-    SampleState, ViewState,
+    SampleState, State, ViewState,
 };
 
 // How far the total of the counts lies below the latest total: below 0 where it is the greater.
@@ -23,9 +23,10 @@ fn view_state(imd: InstanceMetaData, counts: NotAliveGenerationCounts) -> ViewSt
     ensures { result ≡ view_of imd.last_generation_accessed (total counts) }
 {
     if imd.last_generation_accessed < counts.accessed() {
-        return ViewState::New;
+        ViewState::New
+    } else {
+        ViewState::NotNew
     }
-    ViewState::NotNew
 }
 
 // What the ranks of a list are counted from, in edition 1.
@@ -42,30 +43,27 @@ impl Ranking {
     pub fn of_place(self, follow: u64, counts: NotAliveGenerationCounts) -> Ranks
         ensures { result ≡ ranks_from self follow counts }
     {
-        let mrs_generations = self.mrs_generations;
-        let mrsic_generations = self.mrsic_generations;
         Ranks {
             sample_rank: follow,
-            generation_rank: rank(mrsic_generations, counts),
-            absolute_generation_rank: rank(mrs_generations, counts),
+            generation_rank: rank(self.mrsic_generations, counts),
+            absolute_generation_rank: rank(self.mrs_generations, counts),
         }
     }
 }
 
 // The info of a sample, from its instance's record and the ranks of its place.
+#[tactic(auto, using(crate::specs::InfoLaws::made))]
 pub fn make_sample_info(s: Sample, imd: InstanceMetaData, ranks: Ranks) -> Info
     ensures { result ≡ info_from s imd ranks }
 {
-    let counts = s.generation_counts;
-    let body = s.body;
-    let instance_state = imd.instance_state;
+    // a variable: the borrow checker covers no array that goes straight from a field into a literal
     let writer = s.writer_guid;
     Info {
-        body: body,
+        body: s.body,
         sample_state: s.sample_state(),
-        view_state: view_state(imd, counts),
-        instance_state: instance_state,
-        generation_counts: counts,
+        view_state: view_state(imd, s.generation_counts),
+        instance_state: imd.instance_state,
+        generation_counts: s.generation_counts,
         sample_rank: ranks.sample_rank,
         generation_rank: ranks.generation_rank,
         absolute_generation_rank: ranks.absolute_generation_rank,
@@ -110,53 +108,14 @@ impl InfoWords {
     pub const BYTES: usize = 16;
 }
 
-// A rank as a word, in two's complement: -1 is the greatest word.
-fn word_of_rank(x: i64) -> u64
-    ensures { result ≡ word_of_rank x }
-{
-    if x < 0 {
-        return 18446744073709551615 - ((-(x + 1)) as u64);
-    }
-    x as u64
-}
-
-fn rank_of_word(w: u64) -> i64
-    ensures { result ≡ rank_of_word w }
-{
-    if w < 9223372036854775808 {
-        return w as i64;
-    }
-    -((18446744073709551615 - w) as i64) - 1
-}
-
 // A kind that is not 2 stands for a value.
 fn body_of(kind: u64, handle: u32) -> Body
     ensures { result ≡ body_of_words kind handle }
 {
-    if kind == 2 {
-        return Body::Dispose(handle);
+    match kind {
+        2 => Body::Dispose(handle),
+        _ => Body::Value(handle),
     }
-    Body::Value(handle)
-}
-
-// A bit that is not Read's stands for NotRead.
-fn sample_state_of(bit: u64) -> SampleState
-    ensures { result ≡ sample_of_bit bit }
-{
-    if bit == 1 {
-        return SampleState::Read;
-    }
-    SampleState::NotRead
-}
-
-// A bit that is not New's stands for NotNew.
-fn view_state_of(bit: u64) -> ViewState
-    ensures { result ≡ view_of_bit bit }
-{
-    if bit == 1 {
-        return ViewState::New;
-    }
-    ViewState::NotNew
 }
 
 // How many infos the buffer has room for.
@@ -173,28 +132,26 @@ fn put_states(out: &mut [u64], at: usize, x: Info)
     requires { at + 27 ≤ length out.old }
     ensures { out.new ≡ laid out.old at (state_words x) }
 {
-    let body = x.body;
-    let sample_state = x.sample_state;
-    let view_state = x.view_state;
-    let instance_state = x.instance_state;
-    out[at + InfoWords::HANDLE] = body.handle() as u64;
-    out[at + InfoWords::KIND] = body.kind() as u64;
-    out[at + InfoWords::SAMPLE_STATE] = sample_state.bit() as u64;
-    out[at + InfoWords::VIEW_STATE] = view_state.bit() as u64;
-    out[at + InfoWords::INSTANCE_STATE] = instance_state.bit() as u64;
+    out[at + InfoWords::HANDLE] = u64::from(x.body.handle());
+    out[at + InfoWords::KIND] = u64::from(x.body.kind());
+    out[at + InfoWords::SAMPLE_STATE] = u64::from(x.sample_state.bit());
+    out[at + InfoWords::VIEW_STATE] = u64::from(x.view_state.bit());
+    out[at + InfoWords::INSTANCE_STATE] = u64::from(x.instance_state.bit());
 }
 
-// The counts, the ranks and the sequence number.
+// The counts, the ranks, in two's complement, and the sequence number.
 fn put_ranks(out: &mut [u64], at: usize, x: Info)
     requires { at + 27 ≤ length out.old }
     ensures { out.new ≡ laid out.old (at + 5) (rank_words x) }
 {
     let counts = x.generation_counts;
-    out[at + InfoWords::DISPOSED_GENERATION_COUNT] = counts.disposed_generation_count as u64;
-    out[at + InfoWords::NO_WRITERS_GENERATION_COUNT] = counts.no_writers_generation_count as u64;
+    out[at + InfoWords::DISPOSED_GENERATION_COUNT] = u64::from(counts.disposed_generation_count);
+    out[at + InfoWords::NO_WRITERS_GENERATION_COUNT] = u64::from(
+        counts.no_writers_generation_count,
+    );
     out[at + InfoWords::SAMPLE_RANK] = x.sample_rank;
-    out[at + InfoWords::GENERATION_RANK] = word_of_rank(x.generation_rank);
-    out[at + InfoWords::ABSOLUTE_GENERATION_RANK] = word_of_rank(x.absolute_generation_rank);
+    out[at + InfoWords::GENERATION_RANK] = x.generation_rank.cast_unsigned();
+    out[at + InfoWords::ABSOLUTE_GENERATION_RANK] = x.absolute_generation_rank.cast_unsigned();
     out[at + InfoWords::SEQUENCE_NUMBER] = x.sequence_number;
 }
 
@@ -211,10 +168,8 @@ fn put_writer(out: &mut [u64], at: usize, writer: [u8; 16])
     requires { at + 16 ≤ length out.old }
     ensures { out.new ≡ laid out.old at writer }
 {
-    let mut j = 0;
-    while j < InfoWords::BYTES {
-        out[at + j] = writer[j] as u64;
-        j += 1;
+    for j in 0..InfoWords::BYTES {
+        out[at + j] = u64::from(writer[j]);
     }
 }
 
@@ -222,11 +177,14 @@ fn put_writer(out: &mut [u64], at: usize, writer: [u8; 16])
 pub fn put_info(out: &mut [u64], p: usize, x: Info)
     ensures { out.new ≡ put_info out.old p x }
 {
-    if p < out.len() / InfoWords::WORDS {
+    if p < places(out) {
         let at = InfoWords::WORDS * p;
-        let writer = x.publication_handle;
         put_head(out, at, x);
-        put_writer(out, at + InfoWords::PUBLICATION_HANDLE, writer);
+        put_writer(
+            out,
+            at + InfoWords::PUBLICATION_HANDLE,
+            x.publication_handle,
+        );
     }
 }
 
@@ -237,10 +195,8 @@ fn writer_at(out: &[u64], at: usize) -> [u8; 16]
     ensures { result ≡ bytes_of (take 16 (drop at out.now)) }
 {
     let mut writer = [0u8; 16];
-    let mut j = 0;
-    while j < InfoWords::BYTES {
+    for j in 0..InfoWords::BYTES {
         writer[j] = (out[at + j] % 256) as u8;
-        j += 1;
     }
     writer
 }
@@ -263,22 +219,21 @@ fn info_at(out: &[u64], at: usize) -> Info
     ensures { result ≡ info_in out.now at }
 {
     let handle = (out[at + InfoWords::HANDLE] % 4294967296) as u32;
-    let writer = writer_at(out, at + InfoWords::PUBLICATION_HANDLE);
     Info {
         body: body_of(out[at + InfoWords::KIND], handle),
-        sample_state: sample_state_of(out[at + InfoWords::SAMPLE_STATE]),
-        view_state: view_state_of(out[at + InfoWords::VIEW_STATE]),
-        instance_state: InstanceState::of_bit(out[at + InfoWords::INSTANCE_STATE]),
+        sample_state: SampleState::from(out[at + InfoWords::SAMPLE_STATE]),
+        view_state: ViewState::from(out[at + InfoWords::VIEW_STATE]),
+        instance_state: InstanceState::from(out[at + InfoWords::INSTANCE_STATE]),
         generation_counts: counts_at(out, at),
         sample_rank: out[at + InfoWords::SAMPLE_RANK],
-        generation_rank: rank_of_word(out[at + InfoWords::GENERATION_RANK]),
-        absolute_generation_rank: rank_of_word(out[at + InfoWords::ABSOLUTE_GENERATION_RANK]),
-        publication_handle: writer,
+        generation_rank: out[at + InfoWords::GENERATION_RANK].cast_signed(),
+        absolute_generation_rank: out[at + InfoWords::ABSOLUTE_GENERATION_RANK].cast_signed(),
+        publication_handle: writer_at(out, at + InfoWords::PUBLICATION_HANDLE),
         sequence_number: out[at + InfoWords::SEQUENCE_NUMBER],
     }
 }
 
-// What is answered past the end: all numbers 0, a value's body.
+// What is answered past the end: all numbers 0, a value's body. (Written out: no derived default says these states.)
 fn no_info() -> Info
     ensures { result ≡ no_info }
 {
@@ -297,11 +252,13 @@ fn no_info() -> Info
 }
 
 // The info at place p, by value.
+#[tactic(auto, using(crate::specs::GetLaws::get_here, crate::specs::GetLaws::get_past))]
 pub fn get_info(out: &[u64], p: usize) -> Info
     ensures { result ≡ get_info out.now p }
 {
-    if p < out.len() / InfoWords::WORDS {
-        return info_at(out, InfoWords::WORDS * p);
+    if p < places(out) {
+        info_at(out, InfoWords::WORDS * p)
+    } else {
+        no_info()
     }
-    no_info()
 }

@@ -4,43 +4,21 @@
 ghost use Rattle.std.specs.Prelude.{◌≡◌};
 ghost use Rattle.keys.specs.Keys.{key_of, topic_last};
 
-// The last key issued, if any was.
-#[derive(Clone, Copy)]
-pub enum Last {
-    Never,
-    Key(u64),
-}
-
-// The key of a new sample, or refusal 6.
-#[derive(Clone, Copy)]
-pub enum Issued {
-    Key(u64),
-    Refused,
-}
-
-impl Last {
-    // The key of a sample that came at this time.
-    pub fn next(self, time: u64) -> Issued
-        ensures { result ≡ key_of self time }
-    {
-        match self {
-            Last::Never => Issued::Key(time),
-            Last::Key(last) => {
-                if last < time {
-                    return Issued::Key(time);
-                }
-                if last < 0xFFFF_FFFF_FFFF_FFFF {
-                    return Issued::Key(last + 1);
-                }
-                Issued::Refused
-            }
-        }
+// The key of a sample that came at this time; none where no key is later than the last one issued.
+#[tactic(auto, unfolding(crate::specs::Keys::key_of))]
+pub fn next(last: Option<u64>, time: u64) -> Option<u64>
+    ensures { result ≡ key_of last time }
+{
+    match last {
+        None => Some(time),
+        Some(last) if last < time => Some(time),
+        Some(last) => last.checked_add(1),
     }
 }
 
 // Where a topic cache starts.
-pub fn topic() -> Last
+pub fn topic() -> Option<u64>
     ensures { result ≡ topic_last }
 {
-    Last::Key(0)
+    Some(0)
 }

@@ -1,4 +1,5 @@
 -- Which adds are refused, and with which number; that a refused call changes nothing; what a set-up answers.
+use Rattle.std.specs.Prelude.{Some, None}
 use mathlib.Core.Path.{◌≡◌, refl, sym, ap, ◌∙◌}
 use mathlib.Core.Logic.{◌↔◌, ◌⊎◌, inl, inr}
 use mathlib.Core.Bool.{Bool, true, false, not, ◌&&◌, cond, and-eq-true_iff, true≢false}
@@ -14,10 +15,8 @@ use Rattle.sampleinfo.specs.Counts.{total}
 use Rattle.sampleinfo.specs.Lifecycle.{state_of, counts_of, is_reborn, is_last}
 use Rattle.sampleinfo.specs.declared.Body.{Body}
 use Rattle.sampleinfo.specs.declared.Body.TheVariants.{Value, Dispose}
-use Rattle.keys.specs.Keys.{key_of, issued_number}
+use Rattle.keys.specs.Keys.{Issued, key_of, issued_number}
 use Rattle.keys.specs.KeyLaws.{key-later, key_fits, refused_none}
-use Rattle.keys.specs.declared.Issued.{Issued}
-use Rattle.keys.specs.declared.Issued.TheVariants as issued
 use Rattle.model.specs.Model.{Model, Instance, SetUp, Arrival, Call, Step, set_up, add, Answer, refused, ok, added, find, lives, is_new, unkept, no_key, key_in, issue_of, state_in, well_formed, old_of, refusal_of, within, keep_of, fresh, setting_up, accept, adding, access, step}
 use Rattle.model.specs.Bounds.{and_is, or_is, le_is, eq_is}
 use Rattle.model.proofs.Bounds.{accepted}
@@ -73,13 +72,13 @@ formed-is a =
     let x = and_is (or_is (eq_is a.kind 1) (eq_is a.kind 2)) (and_is (le_is 1 a.seq) (ltb-true a.seq (2 ^ 63), lt-ltb a.seq (2 ^ 63))) in
     (λ e. record { kind = (x.0 e).0; seq = (x.0 e).1 }, λ h. x.1 (h.kind, h.seq))
 
-pub issue-given : (x : Issued) → no_key x ≡ false → x ≡ issued.Key (key_in x)
-issue-given (issued.Key k) e = refl
-issue-given issued.Refused e = absurd (true≢false e)
+pub issue-given : (x : Issued) → no_key x ≡ false → x ≡ Some (key_in x)
+issue-given (Some k) e = refl
+issue-given None e = absurd (true≢false e)
 
-issue-refused : (x : Issued) → no_key x ≡ true → x ≡ issued.Refused
-issue-refused (issued.Key k) e = absurd (true≢false (sym e))
-issue-refused issued.Refused e = refl
+issue-refused : (x : Issued) → no_key x ≡ true → x ≡ None
+issue-refused (Some k) e = absurd (true≢false (sym e))
+issue-refused None e = refl
 
 no-later : (m : Model) (a : Arrival) → no_key (issue_of m a) ≡ true → NoLaterKey m
 no-later m a e k h = go (dec_lt k (2 ^ 64))
@@ -91,7 +90,7 @@ no-later m a e k h = go (dec_lt k (2 ^ 64))
 some-later : (m : Model) (a : Arrival) → a.time < 2 ^ 64 → no_key (issue_of m a) ≡ false → ¬ NoLaterKey m
 some-later m a w e h = over (key_in (issue_of m a)) (2 ^ 64) (key_fits m.last a.time (key_in (issue_of m a)) w g) (h (key_in (issue_of m a)) (key-later m.last a.time (key_in (issue_of m a)) g))
   where
-    g : key_of m.last a.time ≡ issued.Key (key_in (issue_of m a))
+    g : key_of m.last a.time ≡ Some (key_in (issue_of m a))
     g = issue-given (issue_of m a) e
 
     over : (x y : ℕ) → x < y → y ≤ x → ⊥

@@ -1,4 +1,5 @@
 -- At most 256 samples are live, each in a slot of its own below 256 and under a key of its own; an add is given the lowest free slot.
+use Rattle.std.specs.Prelude.{Some, None}
 use mathlib.Core.Path.{◌≡◌, refl, sym, ◌∙◌, ap, subst}
 use mathlib.Core.Bool.{Bool, true, false, ◌&&◌, ◌||◌, cond}
 use mathlib.Core.List.{List, [], ◌∷◌, map}
@@ -10,11 +11,9 @@ use lib.IntN.{ℤ, pos, negsuc}
 use lib.Dec.{eqb, leb, ltb}
 use lib.ListN.{length, length-append, length-replicate, length-map}
 use borrow.Author.Tests.{eqb-true, eqb-false, ne_eqb, ltb-true, ltb-false, lt-ltb, le-ltb, leb-true, leb-false, le-leb, lt-leb}
-use Rattle.keys.specs.declared.Last.{Last}
-use Rattle.keys.specs.declared.Last.TheVariants as last
 use Rattle.model.specs.Pairs.{Pair}
 use Rattle.model.specs.Model.{Model, Instance, SetUp, Live, Arrival, Place, held, Call, Step, fresh, within, keep_of, keep_fits, is_zero, counts_kept, counts_none, depth_of, is_new, unkept, find, put, lives, count, in_slot, lowest_from, push, window, listed, left, live_of, old_of, issue_of, key_in, refusal_of, arrived, roomy, slot_of, accept, access, step}
-use Rattle.keys.specs.Keys.{Later}
+use Rattle.keys.specs.Keys.{Last, Later}
 use Rattle.model.specs.Story.{run, Every, lives_of}
 use Rattle.model.specs.Demand3.{Bounded, Lowest, has_key}
 use Rattle.model.proofs.Laws.{every-find, every-put, newcomer, put-here, put-there, find-here, find-there, find-name, Done, turned, began, came, lost, looked, went, asked, done}
@@ -90,8 +89,8 @@ cap k = bit (ltb k 256)
 
 -- a key that was issued
 abbrev pub reached : Last → ℕ → Bool
-reached last.Never k = false
-reached (last.Key l) k = leb k l
+reached None k = false
+reached (Some l) k = leb k l
 
 abbrev Fitted : Option ℕ → List Instance → Type 0
 Fitted none is = length (lives is) ≤ 256
@@ -248,12 +247,12 @@ bit-one true = omega arith
 bit-one false = omega arith
 
 pub not-reached : (o : Last) (k : ℕ) → Later o k → bit (reached o k) ≡ 0
-not-reached last.Never k h = refl
-not-reached (last.Key l) k h = rw (lt-leb k l h)
+not-reached None k h = refl
+not-reached (Some l) k h = rw (lt-leb k l h)
 
 pub reached-on : (o : Last) (k j : ℕ) → Later o k → bit (reached o j) ≤ bit (leb j k)
-reached-on last.Never k j h = omega arith
-reached-on (last.Key l) k j h = split (leb j l)
+reached-on None k j h = omega arith
+reached-on (Some l) k j h = split (leb j l)
     (λ e. rw (e, le-leb j k (omega (arith, leb-true j l e))) (omega arith))
     (λ e. rw e (omega arith))
 

@@ -1,4 +1,5 @@
 -- The topic cache keeps its promises. A call is taken apart once, by the view `Done`; then each promise is a lemma by its cases.
+use Rattle.std.specs.Prelude.{Some, None}
 use mathlib.Core.Path.{◌≡◌, refl, sym, ap, ◌∙◌, subst}
 use mathlib.Core.Logic.{◌↔◌, ◌⊎◌, inl, inr}
 use mathlib.Core.Bool.{Bool, true, false, ◌&&◌, ◌||◌, cond, or-true}
@@ -9,12 +10,8 @@ use native.Mathlib.Omega.{arith}
 use borrow.Author.Tests.{ltb-true, leb-true, leb-false, le-leb, lt-leb, lt-ltb, eqb-true, eq-eqb}
 use lib.ListN.{length, drop, length-drop, length-append}
 use lib.Dec.{ltb, leb, eqb}
-use Rattle.keys.specs.Keys.{key_of, Later, issued_number}
+use Rattle.keys.specs.Keys.{Last, Issued, key_of, Later, issued_number}
 use Rattle.keys.specs.KeyLaws.{key-later, refused_none, none-refused}
-use Rattle.keys.specs.declared.Last.{Last}
-use Rattle.keys.specs.declared.Last.TheVariants as last
-use Rattle.keys.specs.declared.Issued.{Issued}
-use Rattle.keys.specs.declared.Issued.TheVariants as issued
 use Rattle.model.specs.Topic.{Entry, Limits, Topic, Change, Call, update, add, remove_before, range, refused, ok, key, held_already, found, Step, places, in_bounds, depth_fits, limits_fit, raised_to, raised, deeper, wider, may_for, count_below, removal, removed_before, collected, collect_every, collects, collected_for, holds_pair, same_bytes, entry_of, refuse, issuing, within, fresh, step}
 use Rattle.sampleinfo.specs.Formed.{seq_fits}
 use Rattle.model.specs.Bounds.{and_is, le_is}
@@ -42,9 +39,9 @@ data Done (c : Topic) : Call → Step → Type 0 where
   by_2 : (l : Limits) → limits_fit l ≡ false → Done c (update l) (refuse c 2)
   by-1 : (x : Change) → seq_fits x.seq ≡ false → Done c (add x) (refuse c 1)
   again : (x : Change) → seq_fits x.seq ≡ true → holds_pair x.writer x.seq (drop (drops_in c x) c.entries) ≡ true → Done c (add x) (record { answer = held_already; then = left c (drops_in c x) })
-  by-6 : (x : Change) → seq_fits x.seq ≡ true → holds_pair x.writer x.seq (drop (drops_in c x) c.entries) ≡ false → key_of c.last x.time ≡ issued.Refused → Done c (add x) (refuse c 6)
-  accepts : (x : Change) (k : ℕ) → seq_fits x.seq ≡ true → holds_pair x.writer x.seq (drop (drops_in c x) c.entries) ≡ false → key_of c.last x.time ≡ issued.Key k
-      → Done c (add x) (record { answer = key k; then = record { limits = c.limits; last = last.Key k; entries = drop (drops_in c x) c.entries ++ (entry_of x k ∷ []) } })
+  by-6 : (x : Change) → seq_fits x.seq ≡ true → holds_pair x.writer x.seq (drop (drops_in c x) c.entries) ≡ false → key_of c.last x.time ≡ None → Done c (add x) (refuse c 6)
+  accepts : (x : Change) (k : ℕ) → seq_fits x.seq ≡ true → holds_pair x.writer x.seq (drop (drops_in c x) c.entries) ≡ false → key_of c.last x.time ≡ Some k
+      → Done c (add x) (record { answer = key k; then = record { limits = c.limits; last = Some k; entries = drop (drops_in c x) c.entries ++ (entry_of x k ∷ []) } })
   removes : (t : ℕ) → Done c (remove_before t) (record { answer = ok; then = left c (removal c.limits t c.entries) })
   finds : (s t room : ℕ) → leb (length (within s t c.entries)) room ≡ true → Done c (range s t room) (record { answer = found (within s t c.entries); then = c })
   by-9 : (s t room : ℕ) → leb (length (within s t c.entries)) room ≡ false → Done c (range s t room) (refuse c 9)
@@ -59,8 +56,8 @@ done c (add x) =
     (λ e. rw e (by-1 x e))
   where
     go : seq_fits x.seq ≡ true → holds_pair x.writer x.seq (drop (drops_in c x) c.entries) ≡ false → (i : Issued) → key_of c.last x.time ≡ i → Done c (add x) (issuing c (left c (drops_in c x)) x i)
-    go e h issued.Refused q = by-6 x e h q
-    go e h (issued.Key k) q = accepts x k e h q
+    go e h None q = by-6 x e h q
+    go e h (Some k) q = accepts x k e h q
 done c (remove_before t) = removes t
 done c (range s t room) = split (leb (length (within s t c.entries)) room) (λ e. rw e (finds s t room e)) (λ e. rw e (by-9 s t room e))
 
@@ -271,18 +268,18 @@ keys-more (a ∷ es) e = ap (λ (r : List ℕ). a.key ∷ r) (keys-more es e)
 
 -- the keys held rise, and whatever is later than the last key issued is later than them
 record Keyed (k : ℕ) (c : Topic) : Type 0 where
-  issued : c.last ≡ last.Key k
+  issued : c.last ≡ Some k
   rise : (n : ℕ) → k < n → Rises 0 (keys_of c.entries ++ (n ∷ []))
 
-later-key : (k time n : ℕ) (l : Last) → l ≡ last.Key k → key_of l time ≡ issued.Key n → k < n
+later-key : (k time n : ℕ) (l : Last) → l ≡ Some k → key_of l time ≡ Some n → k < n
 later-key k time n l e i = go l e (key-later l time n i)
   where
-    go : (l : Last) → l ≡ last.Key k → Later l n → k < n
-    go last.Never e h = let z : ◌≡◌ {A = ℕ} 0 1 = cc in absurd (omega arith)
-    go (last.Key j) e h = let p : j ≡ k = cc in omega arith
+    go : (l : Last) → l ≡ Some k → Later l n → k < n
+    go None e h = let z : ◌≡◌ {A = ℕ} 0 1 = cc in absurd (omega arith)
+    go (Some j) e h = let p : j ≡ k = cc in omega arith
 
 -- the keys answered later rise from the last one
-answered-done : (c : Topic) {x : Call} {y : Step} → Done c x y → (k : ℕ) → c.last ≡ last.Key k → (rest : List ℕ) → ((n : ℕ) → y.then.last ≡ last.Key n → Rises n rest) → Rises k (key_in y.answer ++ rest)
+answered-done : (c : Topic) {x : Call} {y : Step} → Done c x y → (k : ℕ) → c.last ≡ Some k → (rest : List ℕ) → ((n : ℕ) → y.then.last ≡ Some n → Rises n rest) → Rises k (key_in y.answer ++ rest)
 answered-done c (raises l e) k q rest h = h k q
 answered-done c (by_2 l e) k q rest h = h k q
 answered-done c (by-1 x e) k q rest h = h k q
@@ -293,7 +290,7 @@ answered-done c (removes t) k q rest h = h k q
 answered-done c (finds s t room e) k q rest h = h k q
 answered-done c (by-9 s t room e) k q rest h = h k q
 
-answered : (c : Topic) (xs : List Call) (k : ℕ) → c.last ≡ last.Key k → Rises k (issued_by c xs)
+answered : (c : Topic) (xs : List Call) (k : ℕ) → c.last ≡ Some k → Rises k (issued_by c xs)
 unfolding issued_by
 answered c [] k q = tt
 answered c (x ∷ xs) k q = answered-done c (done c x) k q (issued_by (step c x).then xs) (λ n e. answered (step c x).then xs n e)
@@ -468,10 +465,10 @@ module _ (c : Topic) (x : Change) where
       (λ e. absurd (h (collects-is.0 e)))
       (λ e. sym (ap (λ (b : Bool). cond b (collected c) c) e) ∙ collected-is c x)
 
-refused-later : (c : Topic) (time : ℕ) → key_of c.last time ≡ issued.Refused → NoLaterKey c
+refused-later : (c : Topic) (time : ℕ) → key_of c.last time ≡ None → NoLaterKey c
 refused-later c time e = refused_none c.last time (ap issued_number e)
 
-later-refused : (c : Topic) (time k : ℕ) → time < 2 ^ 64 → NoLaterKey c → key_of c.last time ≡ issued.Key k → ⊥
+later-refused : (c : Topic) (time k : ℕ) → time < 2 ^ 64 → NoLaterKey c → key_of c.last time ≡ Some k → ⊥
 later-refused c time k h n e = let z : ◌≡◌ {A = ℕ} 0 6 = ap issued_number (sym e) ∙ none-refused c.last time h n in omega arith
 
 in-range : (s : ℕ) → (seq_fits s ≡ true) ↔ InRange s
@@ -514,7 +511,7 @@ answers c first x (accepts x' n e i j) f h = record {
   stands = λ q. let z : ◌≡◌ {A = ℕ} 0 1 = cc in absurd (omega arith);
   by-6 = (λ q. let z : ◌≡◌ {A = ℕ} 0 1 = cc in absurd (omega arith), λ q. absurd (later-refused c x.time n h q.2 j));
   by-no-other = λ r q d. let z : ◌≡◌ {A = ℕ} 0 1 = cc in absurd (omega arith);
-  accepted = λ k q. let p : n ≡ k = cc in (j ∙ ap issued.Key p, rw (p, f));
+  accepted = λ k q. let p : n ≡ k = cc in (j ∙ ap Some p, rw (p, f));
 }
   where
     free : held_in first x ≡ false

@@ -1,5 +1,5 @@
 -- Demand 3: statements alone, with document 01's words. `Demand3` at the end collects them: of the cache after any list of calls.
-use Rattle.std.specs.Prelude.{◌≡◌, ◌↔◌, ◌⊎◌, Bool, true, false, cond, List, [], ◌∷◌, ◌++◌, map, ℕ, zero, suc, ◌+◌, ◌-◌, ◌*◌, ◌^◌, ◌≤◌, ◌<◌, min, length, eqb, pos, ◌-ℤ◌}
+use Rattle.std.specs.Prelude.{Some, None, ◌≡◌, ◌↔◌, ◌⊎◌, Bool, true, false, cond, List, [], ◌∷◌, ◌++◌, map, ℕ, zero, suc, ◌+◌, ◌-◌, ◌*◌, ◌^◌, ◌≤◌, ◌<◌, min, length, eqb, pos, ◌-ℤ◌}
 use Rattle.std.proofs.Math.Option.{Option, some, none}
 use Rattle.sampleinfo.specs.States.{handle_of}
 use Rattle.sampleinfo.specs.Counts.{total, accessed_at}
@@ -12,8 +12,6 @@ use Rattle.sampleinfo.specs.declared.Info.{Info}
 use Rattle.readcondition.specs.Masks.{chosen_by, is_valid}
 use Rattle.readcondition.specs.declared.ReadCondition.{ReadCondition}
 use Rattle.keys.specs.Keys.{key_of, Later}
-use Rattle.keys.specs.declared.Last.TheVariants as last
-use Rattle.keys.specs.declared.Issued.TheVariants as issued
 use Rattle.model.specs.Pairs.{Pair, among}
 use Rattle.model.specs.Views.{view_of}
 use Rattle.model.specs.Model.{Live, Instance, Model, SetUp, Arrival, Call, set_up, add, no_writers, choose, read_or_take, next_key, Answer, refused, ok, added, selected, infos, next}
@@ -99,8 +97,8 @@ Pushes before new (some h) now = (s : Live) × (rest : List Live) × (before ≡
 
 pub record Adds (m : Model) (a : Arrival) (key slot : ℕ) (out : Option ℕ) (then : Model) : Type 0 where
   -- the key is document 01's, and is the last one issued from now on
-  pub key-issued : key_of m.last a.time ≡ issued.Key key
-  pub key-last : then.last ≡ last.Key key
+  pub key-issued : key_of m.last a.time ≡ Some key
+  pub key-last : then.last ≡ Some key
   -- "Room is made first, then the lowest free slot is used."
   pub slot-lowest : Lowest slot (lives (roomy m a))
   -- "Each sample keeps the counts as they stood after its own step."
@@ -253,9 +251,9 @@ pub record Demand3 (d : Option ℕ) (now : Model) (seen : List Event) : Type 0 w
   pub keep-told : (n : ℕ) → now.keep ≡ (story_of d n seen).keep
   pub bounds : Bounded now.keep now.room
   -- (b) keys rise strictly over the whole cache; "The last key survives takes."
-  pub keys : Rises last.Never (all_keys seen)
-  pub own_keys : (n : ℕ) → Rises last.Never (entry_keys (entries_of d n seen))
-  pub last-key : now.last ≡ last_key last.Never (all_keys seen)
+  pub keys : Rises None (all_keys seen)
+  pub own_keys : (n : ℕ) → Rises None (entry_keys (entries_of d n seen))
+  pub last-key : now.last ≡ last_key None (all_keys seen)
   pub live-keys : (n : ℕ) → Every (λ s. AtMost now.last s.key) (live_at n now)
   -- (c) an add is refused exactly as demanded, under a keep count never with 5
   pub well-formed : (a : Arrival) → (well_formed a ≡ true) ↔ WellFormed a

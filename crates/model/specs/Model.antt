@@ -1,5 +1,5 @@
 -- The cache as document 01 describes it: setting up, adding, dying, choosing, reading, taking. `step` says what each call answers and what it leaves.
-use Rattle.std.specs.Prelude.{Bool, true, false, ◌&&◌, ◌||◌, not, cond, List, [], ◌∷◌, ◌++◌, map, ℕ, zero, suc, ◌+◌, ◌*◌, length, drop, replicate, ltb, leb, eqb, ℤ, pos, negsuc}
+use Rattle.std.specs.Prelude.{Some, None, Bool, true, false, ◌&&◌, ◌||◌, not, cond, List, [], ◌∷◌, ◌++◌, map, ℕ, zero, suc, ◌+◌, ◌*◌, length, drop, replicate, ltb, leb, eqb, ℤ, pos, negsuc}
 use Rattle.std.proofs.Math.Option.{Option, some, none}
 use Rattle.sampleinfo.specs.States.{handle_of, made_by}
 use Rattle.sampleinfo.specs.Formed.{formed, body_for}
@@ -15,11 +15,7 @@ use Rattle.sampleinfo.specs.declared.Info.{Info}
 use Rattle.sampleinfo.specs.declared.Ranks.{Ranks}
 use Rattle.readcondition.specs.Masks.{chosen_by, is_valid}
 use Rattle.readcondition.specs.declared.ReadCondition.{ReadCondition}
-use Rattle.keys.specs.Keys.{key_of}
-use Rattle.keys.specs.declared.Last.{Last}
-use Rattle.keys.specs.declared.Last.TheVariants as last
-use Rattle.keys.specs.declared.Issued.{Issued}
-use Rattle.keys.specs.declared.Issued.TheVariants as issued
+use Rattle.keys.specs.Keys.{Last, Issued, key_of}
 use Rattle.model.specs.Pairs.{Pair, among, bad_from, first_bad, none_bad, Hit, sorted, pairs_in}
 use Rattle.model.specs.Views.{view_of, greater, viewed, rank_from}
 
@@ -126,7 +122,7 @@ keep_of u = cond (eqb u.mode 3) none (cond (eqb u.mode 4) (some 1) (some (depth_
 
 -- "An accepted set-up makes the cache fresh"
 abbrev pub fresh : Option ℕ → ℕ → Model
-fresh d i = record { keep = d; room = i; last = last.Never; instances = [] }
+fresh d i = record { keep = d; room = i; last = None; instances = [] }
 
 unfoldable pub setting_up : Model → SetUp → Step
 setting_up m u = cond (within u) (record { answer = ok; then = fresh (keep_of u) u.instances }) (refuse m 2)
@@ -215,12 +211,12 @@ unkept none = true
 unkept (some d) = false
 
 abbrev pub no_key : Issued → Bool
-no_key (issued.Key k) = false
-no_key issued.Refused = true
+no_key (Some k) = false
+no_key None = true
 
 abbrev pub key_in : Issued → ℕ
-key_in (issued.Key k) = k
-key_in issued.Refused = 0
+key_in (Some k) = k
+key_in None = 0
 
 abbrev pub or_fresh : Option ℕ → ℕ → InstanceState → Option Instance → Instance
 or_fresh k n s none = record { name = n; meta = new_instance s; places = window k }
@@ -267,7 +263,7 @@ accept m a =
     let key : ℕ = key_in (issue_of m a) in
     record {
       answer = added key (slot_of m a) (pushed_out m.keep i.places);
-      then = record { keep = m.keep; room = m.room; last = last.Key key; instances = put (arrived m.keep i a (held (live_of a (becomes i.meta (state_in a)) key (slot_of m a)))) m.instances };
+      then = record { keep = m.keep; room = m.room; last = Some key; instances = put (arrived m.keep i a (held (live_of a (becomes i.meta (state_in a)) key (slot_of m a)))) m.instances };
     }
 
 unfoldable pub adding : Model → Arrival → Step

@@ -1,12 +1,10 @@
 -- An instance's story: what the caller saw of it, call by call, with no look into the cache.
-use Rattle.std.specs.Prelude.{Bool, true, false, ◌&&◌, cond, List, [], ◌∷◌, ◌++◌, map, ℕ, ◌-◌, ◌≤◌, length, drop, eqb}
+use Rattle.std.specs.Prelude.{Some, None, Bool, true, false, ◌&&◌, cond, List, [], ◌∷◌, ◌++◌, map, ℕ, ◌-◌, ◌≤◌, length, drop, eqb}
 use Rattle.std.proofs.Math.Option.{Option, some, none}
 use Rattle.sampleinfo.specs.Lifecycle.{new_instance, becomes, no_writers_of}
 use Rattle.sampleinfo.specs.declared.InstanceState.{InstanceState}
 use Rattle.sampleinfo.specs.declared.InstanceMetaData.{InstanceMetaData}
-use Rattle.keys.specs.Keys.{Later}
-use Rattle.keys.specs.declared.Last.{Last}
-use Rattle.keys.specs.declared.Last.TheVariants as last
+use Rattle.keys.specs.Keys.{Last, Later}
 use Rattle.model.specs.Pairs.{Pair}
 use Rattle.model.specs.Model.{Live, Instance, Model, Arrival, Call, set_up, add, no_writers, choose, read_or_take, next_key, Answer, refused, ok, added, selected, infos, next, keep_of, find, live_in, state_in, live_of, as_read, listed_in, accessed, step}
 
@@ -171,16 +169,16 @@ entry_keys es = map (λ (e : Entry). e.sample.key) es
 -- each key is later than the one before it
 abbrev pub Rises : Last → List ℕ → Type 0
 Rises o [] = Unit {0}
-Rises o (k ∷ ks) = Later o k × Rises (last.Key k) ks
+Rises o (k ∷ ks) = Later o k × Rises (Some k) ks
 
 -- the last of some keys, or o if there is none
 abbrev pub last_key : Last → List ℕ → Last
 last_key o [] = o
-last_key o (k ∷ ks) = last_key (last.Key k) ks
+last_key o (k ∷ ks) = last_key (Some k) ks
 
 abbrev pub AtMost : Last → ℕ → Type 0
-AtMost last.Never k = ⊥
-AtMost (last.Key l) k = k ≤ l
+AtMost None k = ⊥
+AtMost (Some l) k = k ≤ l
 
 abbrev pub Every {ℓ} : {A : Type ℓ} → (A → Type 0) → List A → Type 0
 Every P [] = Unit {0}

@@ -1,12 +1,8 @@
 -- The topic cache as document 01 describes it: limits, update, collection, adding, removal, range (the best-effort half of dds_cache.rs).
-use Rattle.std.specs.Prelude.{Bool, true, false, ◌&&◌, ◌||◌, cond, List, [], ◌∷◌, ◌++◌, ℕ, ◌+◌, ◌-◌, ◌%◌, max, min, length, drop, ltb, leb, eqb}
+use Rattle.std.specs.Prelude.{Some, None, Bool, true, false, ◌&&◌, ◌||◌, cond, List, [], ◌∷◌, ◌++◌, ℕ, ◌+◌, ◌-◌, ◌%◌, max, min, length, drop, ltb, leb, eqb}
 use Rattle.std.proofs.Math.Option.{Option, some, none}
 use Rattle.sampleinfo.specs.Formed.{seq_fits}
-use Rattle.keys.specs.Keys.{key_of}
-use Rattle.keys.specs.declared.Last.{Last}
-use Rattle.keys.specs.declared.Last.TheVariants as last
-use Rattle.keys.specs.declared.Issued.{Issued}
-use Rattle.keys.specs.declared.Issued.TheVariants as issued
+use Rattle.keys.specs.Keys.{Last, Issued, key_of}
 
 -- "An entry has writer, sequence number, handle and payload length"; with the key that it was given
 pub record Entry : Type 0 where
@@ -154,8 +150,8 @@ refuse c n = record { answer = refused n; then = c }
 
 -- "the key rule above, starting from last key 0"; "Refusal 6 undoes the collection too."
 abbrev pub issuing : Topic → Topic → Change → Issued → Step
-issuing was now x issued.Refused = refuse was 6
-issuing was now x (issued.Key k) = record { answer = key k; then = record { limits = now.limits; last = last.Key k; entries = now.entries ++ entry_of x k ∷ [] } }
+issuing was now x None = refuse was 6
+issuing was now x (Some k) = record { answer = key k; then = record { limits = now.limits; last = Some k; entries = now.entries ++ entry_of x k ∷ [] } }
 
 -- "Topic add: the held test, 6." after 1; "the collection stands"
 abbrev pub adding : Topic → Topic → Change → Step
@@ -168,7 +164,7 @@ within start end [] = []
 within start end (e ∷ es) = let r : List Entry = within start end es in cond (ltb start e.key && leb e.key end) (e ∷ r) r
 
 abbrev pub fresh : Limits → Topic
-fresh l = record { limits = raised l; last = last.Key 0; entries = [] }
+fresh l = record { limits = raised l; last = Some 0; entries = [] }
 
 unfoldable pub step : Topic → Call → Step
 step c (update l) = cond (limits_fit l) (record { answer = ok; then = record { limits = wider c.limits (raised l); last = c.last; entries = c.entries } }) (refuse c 2)

@@ -1,9 +1,7 @@
 -- What the topic cache promises of any list of calls: statements alone, with document 01's words. `TopicPromises` at the end collects them.
-use Rattle.std.specs.Prelude.{◌≡◌, ◌↔◌, ◌⊎◌, Bool, true, false, ◌&&◌, cond, List, [], ◌∷◌, ◌++◌, map, ℕ, ◌+◌, ◌-◌, ◌*◌, ◌^◌, ◌≤◌, ◌<◌, max, min, length, drop, eqb}
+use Rattle.std.specs.Prelude.{Some, ◌≡◌, ◌↔◌, ◌⊎◌, Bool, true, false, ◌&&◌, cond, List, [], ◌∷◌, ◌++◌, map, ℕ, ◌+◌, ◌-◌, ◌*◌, ◌^◌, ◌≤◌, ◌<◌, max, min, length, drop, eqb}
 use Rattle.std.proofs.Math.Option.{Option, some, none}
 use Rattle.keys.specs.Keys.{key_of, Later}
-use Rattle.keys.specs.declared.Last.TheVariants as last
-use Rattle.keys.specs.declared.Issued.TheVariants as issued
 use Rattle.model.specs.Topic.{Entry, Limits, Topic, Change, Call, update, add, remove_before, range}
 use Rattle.model.specs.Topic.{Answer, refused, ok, key, held_already, found, Step, step, fresh, places, limits_fit, defaults}
 use Rattle.model.specs.Topic.{same_bytes, holds_pair, entry_of, count_below, removed_before, collected, within}
@@ -131,7 +129,7 @@ pub record AddAnswers (c first : Topic) (x : Change) (y : Step) : Type 0 where
   pub by-no-other : (n : ℕ) → y.answer ≡ refused n → (n ≡ 1 → ⊥) → n ≡ 6
   -- "Else the key rule above .., and the key is the answer"; the entry stands last
   pub accepted : (k : ℕ) → y.answer ≡ key k
-      → (key_of c.last x.time ≡ issued.Key k) × (y.then ≡ record { limits = c.limits; last = last.Key k; entries = first.entries ++ entry_of x k ∷ [] })
+      → (key_of c.last x.time ≡ Some k) × (y.then ≡ record { limits = c.limits; last = Some k; entries = first.entries ++ entry_of x k ∷ [] })
 
 -- the answer to an update, and what it makes of the limits
 pub record UpdateAnswers (c : Topic) (l : Limits) (y : Step) : Type 0 where

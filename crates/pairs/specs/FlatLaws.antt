@@ -1,6 +1,6 @@
 -- Laws of pairs and chosen samples in lent numbers.
-use Rattle.std.specs.Prelude.{◌≡◌, refl, true, List, [], ◌∷◌, ◌++◌, ℕ, zero, suc, ◌+◌, ◌-◌, ◌*◌, ◌/◌, ◌%◌, ◌≤◌, ◌<◌, length, get_or, take, drop, set}
-use Rattle.std.proofs.Common.{ap, not-suc-le-zero, le_of_suc-le-suc, arith, eq-eqb, eqb-true, length-set}
+use Rattle.std.specs.Prelude.{◌≡◌, refl, true, List, [], ◌∷◌, ◌++◌, ℕ, zero, suc, ◌+◌, ◌*◌, ◌/◌, ◌%◌, ◌≤◌, ◌<◌, length, get_or, take, drop, set}
+use Rattle.std.proofs.Common.{ap, not-suc-le-zero, le_of_suc-le-suc, arith, eq-eqb, eqb-true}
 use Rattle.model.specs.Pairs.{Pair, Hit}
 use Rattle.pairs.specs.Flat.{pair_at, pairs_of, pair_words, whole_pairs, hit_at, hits_of, words_of, put_hit}
 
@@ -69,33 +69,12 @@ hit-here (s ∷ k ∷ []) i h = absurd (not-suc-le-zero h)
 hit-here (s ∷ k ∷ m ∷ l) zero h = refl
 hit-here (s ∷ k ∷ m ∷ l) (suc i) h = rw (three i, three-1 (3 * i), three-2 (3 * i)) (hit-here l i (omega arith))
 
--- a sample read
-pub hit-at : (hs : List Hit) (rest : List ℕ) (i : ℕ) → i < length hs
-    → hit_at (get_or (words_of hs ++ rest) (3 * i) 0) (get_or (words_of hs ++ rest) (3 * i + 1) 0) (get_or (words_of hs ++ rest) (3 * i + 2) 0) ≡ get_or hs i no_hit
-unfolding words_of
-hit-at [] rest i h = absurd (not-suc-le-zero h)
-hit-at (x ∷ hs) rest zero h = refl
-hit-at (x ∷ hs) rest (suc i) h = rw (three i, three-1 (3 * i), three-2 (3 * i)) (hit-at hs rest i (le_of_suc-le-suc h))
-
 -- a sample stored
 pub put-hit : (hs : List Hit) (rest : List ℕ) (i : ℕ) (x : Hit) → i < length hs → put_hit (words_of hs ++ rest) i x ≡ words_of (set hs i x) ++ rest
 unfolding words_of put_hit
 put-hit [] rest i x h = absurd (not-suc-le-zero h)
 put-hit (y ∷ hs) rest zero x h = refl
 put-hit (y ∷ hs) rest (suc i) x h = rw (three i, three-1 (3 * i), three-2 (3 * i), put-hit hs rest i x (le_of_suc-le-suc h))
-
-pub length-put : (l : List ℕ) (i : ℕ) (x : Hit) → length (put_hit l i x) ≡ length l
-unfolding put_hit
-length-put l i x = simp length-set
-
--- the words of the first m samples, and what stands past them
-pub rebuilt : (l : List ℕ) (m : ℕ) → m ≤ length l / 3 → words_of (take m (hits_of l)) ++ drop (3 * m) l ≡ l
-unfolding hits_of words_of
-rebuilt l zero h = refl
-rebuilt [] (suc m) h = absurd (not-suc-le-zero h)
-rebuilt (s ∷ []) (suc m) h = absurd (not-suc-le-zero h)
-rebuilt (s ∷ k ∷ []) (suc m) h = absurd (not-suc-le-zero h)
-rebuilt (s ∷ k ∷ j ∷ l) (suc m) h = rw (three m, rebuilt l m (omega arith))
 
 pub length-words : (hs : List Hit) → length (words_of hs) ≡ 3 * length hs
 unfolding words_of
@@ -107,3 +86,25 @@ pub hits-words : (hs : List Hit) (rest : List ℕ) → hits_of (words_of hs ++ r
 unfolding hits_of words_of
 hits-words [] rest = refl
 hits-words (x ∷ hs) rest = ap (λ (r : List Hit). x ∷ r) (hits-words hs rest)
+
+pub words-append : (xs ys : List Hit) → words_of (xs ++ ys) ≡ words_of xs ++ words_of ys
+unfolding words_of
+words-append [] ys = refl
+words-append (x ∷ xs) ys = ap (λ (r : List ℕ). x.seq ∷ x.pair.key ∷ x.pair.name ∷ r) (words-append xs ys)
+
+-- the words of the first k samples, and the samples past them
+pub take-hits : (l : List ℕ) (k : ℕ) → k ≤ length l / 3 → take (3 * k) l ≡ words_of (take k (hits_of l))
+unfolding hits_of words_of
+take-hits l zero h = refl
+take-hits [] (suc k) h = absurd (not-suc-le-zero h)
+take-hits (s ∷ []) (suc k) h = absurd (not-suc-le-zero h)
+take-hits (s ∷ m ∷ []) (suc k) h = absurd (not-suc-le-zero h)
+take-hits (s ∷ m ∷ j ∷ l) (suc k) h = rw (three k, take-hits l k (omega arith))
+
+pub drop-hits : (l : List ℕ) (k : ℕ) → k ≤ length l / 3 → hits_of (drop (3 * k) l) ≡ drop k (hits_of l)
+unfolding hits_of
+drop-hits l zero h = refl
+drop-hits [] (suc k) h = absurd (not-suc-le-zero h)
+drop-hits (s ∷ []) (suc k) h = absurd (not-suc-le-zero h)
+drop-hits (s ∷ m ∷ []) (suc k) h = absurd (not-suc-le-zero h)
+drop-hits (s ∷ m ∷ j ∷ l) (suc k) h = rw (three k) (drop-hits l k (omega arith))

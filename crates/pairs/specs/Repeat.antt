@@ -1,5 +1,7 @@
 -- The first repeat in a list of pairs, the first that is not live, and the first bad pair by these two.
 use Rattle.std.specs.Prelude.{Bool, cond, List, [], ◌∷◌, ◌++◌, ℕ, suc, ltb}
+use Rattle.std.specs.Prelude as rust
+use Rattle.std.specs.Bool.{then_some}
 use Rattle.std.proofs.Math.Option.{Option, some, none}
 use Rattle.model.specs.Pairs.{Pair, among, Bad, not_live, twice}
 
@@ -18,6 +20,10 @@ first_repeat ps = repeat_from [] ps
 unfoldable pub first_dead : (Pair → Bool) → List Pair → ℕ
 first_dead live [] = 0
 first_dead live (p ∷ ps) = let r : ℕ = suc (first_dead live ps) in cond (live p) r 0
+
+-- a place of a list of n, and none past its end
+abbrev pub place_in : ℕ → ℕ → rust.Option ℕ
+place_in n p = then_some (ltb p n) p
 
 -- of n pairs the first that is not live stands at d and the first repeat at r, or at n where there is none
 abbrev pub bad_by : ℕ → ℕ → ℕ → Option Bad

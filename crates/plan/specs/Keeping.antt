@@ -1,5 +1,5 @@
 -- An add keeps the store fit; and two outcomes of one add are equal.
-use Rattle.std.specs.Prelude.{◌≡◌, Bool, ◌&&◌, cond, List, map, ℕ, ◌+◌, ◌≤◌, ◌<◌, set, ltb}
+use Rattle.std.specs.Prelude.{◌≡◌, Bool, ◌&&◌, cond, List, ℕ, ◌+◌, ◌≤◌, ◌<◌, set, ltb, Option, Some, None}
 use Rattle.std.proofs.Math.Path.{refl}
 use Rattle.std.proofs.Common.{sym, ap, ◌∙◌, ⊎_elim, eq-or-lt_of_le, arith, ltb-true, leb-false}
 use Rattle.std.proofs.Math.Bool.{true, false}
@@ -10,33 +10,35 @@ use Rattle.std.proofs.Math.Dec.{leb}
 use Rattle.lists.specs.Blocks.{put_at, length-put-in, length-put-end}
 use Rattle.slots.specs.Bits.{first_one}
 use Rattle.slots.specs.FreeLaws.{Whole}
-use Rattle.keys.specs.Keys.{key_of}
-use Rattle.keys.specs.declared.Issued.{Issued}
-use Rattle.keys.specs.declared.Issued.TheVariants as issued
+use Rattle.keys.specs.Keys.{Issued, key_of}
 use Rattle.sampleinfo.specs.Counts.{total}
 use Rattle.sampleinfo.specs.Lifecycle.{state_of, counts_of, is_reborn, counts_after, becomes, lifecycle_of}
 use Rattle.sampleinfo.specs.LifecycleLaws.{total-after}
 use Rattle.sampleinfo.specs.declared.InstanceState.{InstanceState}
 use Rattle.sampleinfo.specs.declared.InstanceMetaData.{InstanceMetaData}
-use Rattle.sampleinfo.specs.declared.Stepped.{Stepped}
-use Rattle.sampleinfo.specs.declared.Stepped.TheVariants as stepped
-use Rattle.store.specs.Store.{Inst, Store, Step, Wanted, place_of, no_inst, fresh_inst, with_meta, oldest, moved_on, filling, placing, declined, living, keying, issuing, adding}
+use Rattle.store.specs.Store.{Inst, Store, Said, refused, added, Step, Wanted, place_of, no_inst, fresh_inst, with_meta, oldest, moved_on, filling, placing, declined, living, keying, issuing, adding}
 use Rattle.store.specs.Fit.{Fit, depth_of}
-use Rattle.index.specs.Memory.{cells_of, shown, head_of, Tied}
+use Rattle.index.specs.Memory.{cells_of, Tied}
+use Rattle.index.specs.declared.Cache.{Cache}
+use Rattle.index.specs.Words.{slot_in}
 use Rattle.index.specs.Keeping.{all-put, same_head}
-use Rattle.plan.specs.Plan.{Ready, Made}
+use Rattle.plan.specs.Plan.{Ready, Says, head_after, Made}
 use Rattle.plan.specs.PlaceLaws.{moved-long}
 use Rattle.plan.specs.KeyedLaws.{place-le, any-default, fresh_cells, room-left}
-use Rattle.plan.specs.declared.Outcome.{Outcome}
+use Rattle.std.specs.declared.result.Result.{Result}
+use Rattle.std.specs.declared.result.Result.TheVariants.{Ok, Err}
+use Rattle.refusals.specs.declared.Refusal.{Refusal}
+use Rattle.refusals.specs.NumberLaws.{same-refusal}
+use Rattle.plan.specs.declared.Planned.{Planned}
 
 -- ---- the lifecycle step keeps the total small
 
-pub total-stepped : (x : InstanceMetaData) (new : InstanceState) (j : InstanceMetaData) → total (counts_of x) ≤ 2147483647 → lifecycle_of x new ≡ stepped.Now j → total (counts_of j) ≤ 2147483647
+pub total-stepped : (x : InstanceMetaData) (new : InstanceState) (j : InstanceMetaData) → total (counts_of x) ≤ 2147483647 → lifecycle_of x new ≡ Some j → total (counts_of j) ≤ 2147483647
 unfolding lifecycle_of
 total-stepped x new j h e = go (is_reborn (state_of x) new) (leb 2147483647 (total (counts_of x))) refl (total-after (state_of x) new (counts_of x)) e
   where
     go : (r l : Bool) → leb 2147483647 (total (counts_of x)) ≡ l → total (counts_after (state_of x) new (counts_of x)) ≡ total (counts_of x) + cond r 1 0
-        → cond (r && l) stepped.Refused (stepped.Now (becomes x new)) ≡ stepped.Now j → total (counts_of j) ≤ 2147483647
+        → cond (r && l) None (Some (becomes x new)) ≡ Some j → total (counts_of j) ≤ 2147483647
     go true true p q z = let t : ◌≡◌ {A = ℕ} 0 1 = cc in absurd (omega arith)
     go true false p q z = let t : becomes x new ≡ j = cc in rw (← t) (omega (arith, leb-false 2147483647 (total (counts_of x)) p))
     go false l p q z = let t : becomes x new ≡ j = cc in rw (← t) (omega arith)
@@ -105,9 +107,9 @@ module _ (s : Store) (f : Fit s) (a : Wanted) where
       window = rw (← (fresh_cells s.keep)) (get_or-map cells_of s.insts at (fresh_inst s.keep a.name a.state));
     }
 
-    fit-living : (key : ℕ) (o : Stepped) → lifecycle_of old.meta a.state ≡ o → Fit (living s at old key o).then
-    fit-living key stepped.Refused e = f
-    fit-living key (stepped.Now j) e = fit-placing s f at (with_meta old j) (ready-old j) (total-stepped old.meta a.state j old-total e) key
+    fit-living : (key : ℕ) (o : Option InstanceMetaData) → lifecycle_of old.meta a.state ≡ o → Fit (living s at old key o).then
+    fit-living key None e = f
+    fit-living key (Some j) e = fit-placing s f at (with_meta old j) (ready-old j) (total-stepped old.meta a.state j old-total e) key
 
   fit-keying : (key : ℕ) → Fit (keying s a key).then
   unfolding keying at old
@@ -123,18 +125,24 @@ module _ (s : Store) (f : Fit s) (a : Wanted) where
   fit-adding = go (key_of s.last a.time)
     where
       go : (o : Issued) → Fit (issuing s a o).then
-      go issued.Refused = f
-      go (issued.Key key) = fit-keying key
+      go None = f
+      go (Some key) = fit-keying key
 
 -- what `plan` leaves is tied to the store after the add
-pub tied-adding : (s : Store) (a : Wanted) (r : Outcome) (end : List ℕ) → Fit s → Made (adding s a) r end → Tied (adding s a).then r.head end
-tied-adding s a r end f m = record { fit = fit-adding s f a; head = m.head; words = m.words }
+pub tied-adding : (s : Store) (a : Wanted) (h : Cache) (r : Result Planned Refusal) (end : List ℕ) → Fit s → Made (adding s a) h r end → Tied (adding s a).then (head_after h r) end
+tied-adding s a h r end f m = record { fit = fit-adding s f a; head = m.head; words = m.words }
 
 -- ---- one outcome for each step
 
-pub one-outcome : (st : Step) (r q : Outcome) (v w : List ℕ) → Whole r.head.free → Whole q.head.free → Made st r v → Made st q w → (r ≡ q) × (v ≡ w)
-one-outcome st r q v w x y m n =
-    let h : r.head ≡ q.head = same_head r.head q.head x y (m.head ∙ sym n.head) in
-    let a : r.answer ≡ q.answer = m.answer ∙ sym n.answer in
-    let t : ◌≡◌ {A = Outcome} (record { head = r.head; answer = r.answer }) (record { head = q.head; answer = q.answer }) = rw (h, a) in
-    (t, m.words ∙ sym n.words)
+one-answer : (z : Said) (h : Cache) (r q : Result Planned Refusal) → head_after h r ≡ head_after h q → Says z r → Says z q → r ≡ q
+one-answer (refused n) h (Err e) (Err g) k a b = ap Err (same-refusal e g (a ∙ sym b))
+one-answer (added key slot was counts) h (Ok p) (Ok q) k a b =
+    ap Ok (a ∙ ap (λ (c : Cache). record { head = c; key = key; slot = slot; old = slot_in was; counts = counts }) k ∙ sym b)
+one-answer (refused n) h (Ok p) q k a b = absurd a
+one-answer (refused n) h (Err e) (Ok q) k a b = absurd b
+one-answer (added key slot was counts) h (Err e) q k a b = absurd a
+one-answer (added key slot was counts) h (Ok p) (Err e) k a b = absurd b
+
+pub one-outcome : (st : Step) (h : Cache) (r q : Result Planned Refusal) (v w : List ℕ) → Whole (head_after h r).free → Whole (head_after h q).free → Made st h r v → Made st h q w → (r ≡ q) × (v ≡ w)
+one-outcome st h r q v w x y m n =
+    (one-answer st.said h r q (same_head (head_after h r) (head_after h q) x y (m.head ∙ sym n.head)) m.answer n.answer, m.words ∙ sym n.words)

@@ -1,46 +1,78 @@
 -- What placing a sample comes to, from what the steps of the code say.
-use Rattle.std.specs.Prelude.{◌≡◌, refl, Bool, false, cond, get_or, eqb}
-use Rattle.std.proofs.Common.{sym, ◌∙◌, ⊎_elim, eq-or-lt_of_le, arith, lt-ltb, le-ltb}
+use Rattle.std.specs.Prelude.{Option, Some, None, MatchOption, ok_or, ◌≡◌, refl, Bool, false, cond, get_or, eqb, ◌⊎◌, max}
+use Rattle.std.proofs.Common.{inl, inr, sym, ◌∙◌, ⊎_elim, eq-or-lt_of_le, arith, lt-ltb}
 use Rattle.std.proofs.Math.Path.{ap}
 use Rattle.std.proofs.Math.Bool.{true}
-use mathlib.Core.List.{List, [], ◌∷◌, map}
-use Rattle.std.proofs.Math.Option.{Option, some, none}
-use Prim.Native.Nat.{ℕ, zero, suc, ◌+◌, ◌*◌, ◌≤◌, ◌<◌}
-use Rattle.std.proofs.Math.Decide.{dec_lt}
+use mathlib.Core.List.{List, map}
+use Prim.Native.Nat.{ℕ, ◌+◌, ◌*◌, ◌≤◌, ◌<◌}
 use Rattle.std.proofs.Math.ListN.{length, set, length-map, length-set}
 use Rattle.std.proofs.Math.Dec.{ltb}
 use Rattle.lists.specs.Blocks.{filled, put_at, map-put, length-put-in, length-put-end}
-use Rattle.slots.specs.Bits.{first_one, total, bits_of}
-use Rattle.slots.specs.FreeLaws.{lowest-le, none_free, none-counted}
+use Rattle.slots.specs.Bits.{first_one, bits_of}
 use Rattle.slots.specs.declared.Free.{Free}
-use Rattle.keys.specs.declared.Last.TheVariants as last
 use Rattle.sampleinfo.specs.Lifecycle.{counts_of}
-use Rattle.sampleinfo.specs.declared.NotAliveGenerationCounts.{NotAliveGenerationCounts}
 use Rattle.sampleinfo.specs.declared.InstanceMetaData.{InstanceMetaData}
 use Rattle.store.specs.Store.{Inst, Store, oldest, moved_on, filling, placing, declined}
 use Rattle.store.specs.Fit.{Fit, depth_of}
-use Rattle.index.specs.Words.{region, words, padded, meta_line, put_name, put_meta, put_slot, set_meta}
+use Rattle.index.specs.Words.{region, words, padded, set_meta, slot_in}
 use Rattle.index.specs.WordLaws.{to-names, meta-join, slot-join, metas-put, padded-put, length-set-meta, length-block}
-use Rattle.index.specs.Memory.{name_of, line_of, cells_of, index_of, View, shown, head_of, Tied}
+use Rattle.index.specs.Memory.{name_of, line_of, cells_of, index_of, View, Tied}
 use Rattle.index.specs.MemoryLaws.{names, metas, cells, names-long, metas-long, cells-long, cells_are, even-lines, even-cells, cells_fit, few-names, few-lines, deep_room}
 use Rattle.index.specs.declared.Cache.{Cache}
+use Rattle.index.specs.declared.Window.{Window}
 use Rattle.plan.specs.Plan.{Ready, Made, moved_along, committed}
 use Rattle.plan.specs.WindowLaws.{oldest-is, moved-is, length_moved}
-use Rattle.plan.specs.declared.Outcome.{Outcome}
-use Rattle.plan.specs.declared.Answer.TheVariants as answer
+use Rattle.std.specs.declared.result.Result.{Result}
+use Rattle.std.specs.declared.result.Result.TheVariants.{Ok, Err}
+use Rattle.refusals.specs.Numbers.{number_of}
+use Rattle.refusals.specs.declared.Refusal.{Refusal}
+use Rattle.refusals.specs.declared.Refusal.TheVariants as refusal
+
+-- ---- an Option that a `?` takes, as a Result
+
+module _ {A : Type 0} (got : Result A Refusal) (o : Option A) (d : Refusal) (g : got ≡ ok_or o d) where
+  pub none-given : (e : Refusal) → got ≡ Err e → (o ≡ None) × (d ≡ e)
+  none-given e z = go o refl
+    where
+      go : (p : Option A) → o ≡ p → (o ≡ None) × (d ≡ e)
+      go None q = let same : ◌≡◌ {A = Result A Refusal} (Err d) (Err e) = sym (rw q at g) ∙ z in (q, cc)
+      go (Some y) q = let no : ◌≡◌ {A = Result A Refusal} (Ok y) (Err e) = sym (rw q at g) ∙ z in absurd (cc)
+
+  pub one-given : (y : A) → got ≡ Ok y → o ≡ Some y
+  one-given y z = go o refl
+    where
+      go : (p : Option A) → o ≡ p → o ≡ Some y
+      go None q = let no : ◌≡◌ {A = Result A Refusal} (Err d) (Ok y) = sym (rw q at g) ∙ z in absurd (cc)
+      go (Some x) q = let same : ◌≡◌ {A = Result A Refusal} (Ok x) (Ok y) = sym (rw q at g) ∙ z in let told : x ≡ y = cc in q ∙ ap Some told
+
+-- ---- a number as a slot
+
+slot-none : (n : ℕ) → slot_in n ≡ None → ltb n 256 ≡ false
+slot-none n e = go (ltb n 256) refl
+  where
+    go : (b : Bool) → ltb n 256 ≡ b → ltb n 256 ≡ false
+    go false q = q
+    go true q = let no : Some n ≡ None = rw q at e in absurd (cc)
+
+slot-some : (n slot : ℕ) → slot_in n ≡ Some slot → (ltb n 256 ≡ true) × (slot ≡ n)
+slot-some n slot e = go (ltb n 256) refl
+  where
+    go : (b : Bool) → ltb n 256 ≡ b → (ltb n 256 ≡ true) × (slot ≡ n)
+    go true q = let same : Some n ≡ Some slot = rw q at e in (q, cc)
+    go false q = let no : ◌≡◌ {A = Option ℕ} None (Some slot) = rw q at e in absurd (cc)
 
 -- a refusal leaves header and words as they are
-pub made-refused : (s : Store) (h : Cache) (ws : List ℕ) (n : ℕ) (out : Outcome) → Tied s h ws → out.head ≡ h → out.answer ≡ answer.Refused n → Made (declined n s) out ws
-made-refused s h ws n out t a b = record { answer = b; head = ap shown a ∙ t.head; words = t.words }
+pub made-refused : (s : Store) (h : Cache) (ws : List ℕ) (e : Refusal) → Tied s h ws → Made (declined (number_of e) s) h (Err e) ws
+made-refused s h ws e t = record { answer = refl; head = t.head; words = t.words }
 
-held-put : (is : List Inst) (at held : ℕ) (j : Inst) → held ≡ length is → at ≤ length is → cond (ltb at held) held (held + 1) ≡ length (put_at at j is)
+held-put : (is : List Inst) (at held : ℕ) (j : Inst) → held ≡ length is → at ≤ length is → max held (at + 1) ≡ length (put_at at j is)
 held-put is at held j e h = ⊎_elim last inner (eq-or-lt_of_le h)
   where
-    inner : at < length is → cond (ltb at held) held (held + 1) ≡ length (put_at at j is)
-    inner m = rw (lt-ltb at held (omega arith)) (e ∙ sym (length-put-in is at j m))
+    inner : at < length is → max held (at + 1) ≡ length (put_at at j is)
+    inner m = omega (arith, length-put-in is at j m)
 
-    last : at ≡ length is → cond (ltb at held) held (held + 1) ≡ length (put_at at j is)
-    last q = rw (le-ltb at held (omega arith), q, e) (sym (length-put-end is j))
+    last : at ≡ length is → max held (at + 1) ≡ length (put_at at j is)
+    last q = rw q (omega (arith, length-put-end is j))
 
 -- ---- the stores of an add
 
@@ -102,67 +134,65 @@ module _ (h : Cache) (ws : List ℕ) (row name : ℕ) (x : InstanceMetaData) (ke
   depth_is : h.depth ≡ depth_of s.keep
   depth_is = ap (λ (v : View). v.depth) t.head
 
-  -- what the guards turn away is no store's
-  pub place-far : (out : Outcome) (end : List ℕ) → 32 ≤ row → Made (placing s row i key) out end
-  place-far out end m = absurd (omega (arith, r.space, t.fit.rooms))
+  module _ (found : Option Window) (got : Result Window Refusal) (of : MatchOption found ((256 < h.depth) ⊎ (32 ≤ row)) (λ w. (w.depth ≡ h.depth) × (w.row ≡ row))) (gs : got ≡ ok_or found refusal.NoFreeSlot) where
+    -- a window that there is not is no store's
+    pub place-out : (e : Refusal) → got ≡ Err e → Made (placing s row i key) h (Err e) ws
+    place-out e z = let n : (found ≡ None) × (refusal.NoFreeSlot ≡ e) = none-given got found refusal.NoFreeSlot gs e z in go (rw n.0 at of)
+      where
+        go : (256 < h.depth) ⊎ (32 ≤ row) → Made (placing s row i key) h (Err e) ws
+        go (inl m) = absurd (omega (arith, deep_room s.keep s.room row t.fit.deep r.space, depth_is))
+        go (inr m) = absurd (omega (arith, r.space, t.fit.rooms))
 
-  pub place-deep : (out : Outcome) (end : List ℕ) → 256 < h.depth → Made (placing s row i key) out end
-  place-deep out end m = absurd (omega (arith, deep_room s.keep s.room row t.fit.deep r.space, depth_is))
+    module _ (v : Window) (z : got ≡ Ok v) where
+      window-is : (v.depth ≡ h.depth) × (v.row ≡ row)
+      window-is = rw (one-given got found refusal.NoFreeSlot gs v z) at of
 
-  module _ (old : ℕ) (o : old ≡ cond (eqb h.depth 0) 256 (get_or (region 160 256 ws) (h.depth * row) 0)) where
-    old-is : old ≡ oldest s.keep i.cells
-    old-is =
-        o ∙ rw (depth_is, t.words, cells_are s t.fit)
-        (oldest-is (names s) (metas s) s.keys s.owners (names-long s t.fit) (metas-long s t.fit) t.fit.keys t.fit.owners s.room row r.space (map cells_of s.insts)
-        (at_cells s t.fit row i r 0) i.cells 0 s.keep t.fit.deep (even-cells s t.fit) (cells_fit s t.fit) r.window)
+      module _ (old : ℕ) (o : old ≡ cond (eqb v.depth 0) 256 (get_or (region 160 256 ws) (v.depth * v.row) 0)) where
+        old-is : old ≡ oldest s.keep i.cells
+        old-is =
+            o ∙ rw (window-is.0, window-is.1, depth_is, t.words, cells_are s t.fit)
+            (oldest-is (names s) (metas s) s.keys s.owners (names-long s t.fit) (metas-long s t.fit) t.fit.keys t.fit.owners s.room row r.space (map cells_of s.insts)
+            (at_cells s t.fit row i r 0) i.cells 0 s.keep t.fit.deep (even-cells s t.fit) (cells_fit s t.fit) r.window)
 
-    module _ (roomy : List ℕ) (g : roomy ≡ set (bits_of h.free.words) old 1) where
-      roomy-is : roomy ≡ set s.free (oldest s.keep i.cells) 1
-      roomy-is = g ∙ ap (λ (v : View). set v.free old 1) t.head ∙ rw old-is
+        module _ (roomy : List ℕ) (g : roomy ≡ set (bits_of h.free.words) old 1) where
+          roomy-is : roomy ≡ set s.free (oldest s.keep i.cells) 1
+          roomy-is = g ∙ ap (λ (v : View). set v.free old 1) t.head ∙ rw old-is
 
-      roomy-long : length roomy ≡ 256
-      roomy-long = ap length roomy-is ∙ simp length-set t.fit.free
+          roomy-long : length roomy ≡ 256
+          roomy-long = ap length roomy-is ∙ simp length-set t.fit.free
 
-      pub place-full : (n : ℕ) (out : Outcome) → n ≡ total roomy → n ≡ 0 → out.head ≡ h → out.answer ≡ answer.Refused 5 → Made (placing s row i key) out ws
-      unfolding placing
-      place-full n out c z a b =
-          let first : first_one (set s.free (oldest s.keep i.cells) 1) ≡ 256 = ap first_one (sym roomy-is) ∙ none_free roomy (sym c ∙ z) ∙ roomy-long in
-          rw first (made-refused s h ws 5 out t a b)
+          module _ (lowest : Option ℕ) (chosen : Result ℕ Refusal) (l : lowest ≡ slot_in (first_one roomy)) (cs : chosen ≡ ok_or lowest refusal.NoFreeSlot) where
+            pub place-full : (e : Refusal) → chosen ≡ Err e → Made (placing s row i key) h (Err e) ws
+            unfolding placing
+            place-full e y =
+                let n : (lowest ≡ None) × (refusal.NoFreeSlot ≡ e) = none-given chosen lowest refusal.NoFreeSlot cs e y in
+                let full : ltb (first_one (set s.free (oldest s.keep i.cells) 1)) 256 ≡ false = rw (← roomy-is) (slot-none (first_one roomy) (sym l ∙ n.0)) in
+                rw (full, ← n.1) (made-refused s h ws refusal.NoFreeSlot t)
 
-      module _ (n slot : ℕ) (c : n ≡ total roomy) (some-free : n ≡ 0 → ⊥) (l : slot ≡ first_one roomy) where
-        low : slot < 256
-        low = go (dec_lt slot 256)
-          where
-            go : Dec (slot < 256) → slot < 256
-            go (yes m) = m
-            go (no m) = absurd (some-free (c ∙ none-counted roomy (omega (arith, l, lowest-le roomy, roomy-long))))
-
-        slot_is : slot ≡ first_one (set s.free (oldest s.keep i.cells) 1)
-        slot_is = l ∙ ap first_one roomy-is
-
-        pub place-done : (taken : Free) (held : ℕ) (end : List ℕ) → bits_of taken.words ≡ set roomy slot 0 → held ≡ cond (ltb row h.held) h.held (h.held + 1)
-            → end ≡ committed ws h.depth row name x key slot old
-            → Made (placing s row i key)
-            (record {
-              head = record { depth = h.depth; room = h.room; held = held; last = last.Key key; newest = slot; free = taken };
-              answer = answer.Added key slot old (counts_of x);
-            })
-            end
-        unfolding placing filling
-        place-done taken held end b k w =
-            let lt : ltb (first_one (set s.free (oldest s.keep i.cells) 1)) 256 ≡ true = rw (← slot_is) (lt-ltb slot 256 low) in
-            let hs : held ≡ length (put_at row (record { name = i.name; meta = i.meta; cells = moved_on s.keep i.cells slot }) s.insts) =
-            k ∙ held-put s.insts row h.held _ (ap (λ (v : View). v.held) t.head) r.place in
-            let rm : h.room ≡ s.room = ap (λ (v : View). v.room) t.head in
-            let ws2 : end ≡ index_of (filling s row i key old slot).then = w ∙ rw (t.words, depth_is, ns, xs) (commit-is s t.fit row i r slot key old) in
-            rw (lt, ← slot_is, ← old-is)
-            (record {
-              answer = rw xs;
-              head = rw (hs, b, roomy-is, ← old-is, rm, depth_is);
-              words = ws2;
-            })
-
-pub commit-done : (ws w0 w1 w2 w3 w4 : List ℕ) (depth row name : ℕ) (x : InstanceMetaData) (key slot old : ℕ) → w4 ≡ put_slot w3 slot key row → w3 ≡ put_slot w2 old 0 0
-    → w2 ≡ moved_along w1 (depth * row) depth slot → w1 ≡ put_meta w0 row x → w0 ≡ put_name ws row name → w4 ≡ committed ws depth row name x key slot old
-unfolding committed
-commit-done ws w0 w1 w2 w3 w4 depth row name x key slot old p q r s t = rw (p, q, r, s, t)
+            pub place-done : (slot : ℕ) → chosen ≡ Ok slot → (taken : Free) (held : ℕ) (end : List ℕ) → bits_of taken.words ≡ set roomy slot 0 → held ≡ max h.held (row + 1)
+                → end ≡ committed ws v.depth v.row name x key slot old
+                → Made (placing s row i key) h
+                (Ok
+                (record {
+                  head = record { depth = h.depth; room = h.room; held = held; last = Some key; newest = slot; free = taken };
+                  key = key;
+                  slot = slot;
+                  old = slot_in old;
+                  counts = counts_of x;
+                }))
+                end
+            unfolding placing filling
+            place-done slot y taken held end b k w =
+                let low : (ltb (first_one roomy) 256 ≡ true) × (slot ≡ first_one roomy) = slot-some (first_one roomy) slot (sym l ∙ one-given chosen lowest refusal.NoFreeSlot cs slot y) in
+                let lt : ltb (first_one (set s.free (oldest s.keep i.cells) 1)) 256 ≡ true = rw (← roomy-is) low.0 in
+                let slot_is : slot ≡ first_one (set s.free (oldest s.keep i.cells) 1) = low.1 ∙ ap first_one roomy-is in
+                let hs : held ≡ length (put_at row (record { name = i.name; meta = i.meta; cells = moved_on s.keep i.cells slot }) s.insts) =
+                k ∙ held-put s.insts row h.held _ (ap (λ (u : View). u.held) t.head) r.place in
+                let rm : h.room ≡ s.room = ap (λ (u : View). u.room) t.head in
+                let ws2 : end ≡ index_of (filling s row i key old slot).then = w ∙ rw (window-is.0, window-is.1, t.words, depth_is, ns, xs) (commit-is s t.fit row i r slot key old) in
+                rw (lt, ← slot_is, ← old-is)
+                (record {
+                  answer = rw xs;
+                  head = rw (hs, b, roomy-is, ← old-is, rm, depth_is);
+                  words = ws2;
+                })

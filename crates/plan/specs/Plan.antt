@@ -1,32 +1,37 @@
 -- What an add answers and writes, on the header and the lent words.
 use Rattle.std.specs.Prelude.{◌≡◌, List, map, ℕ, zero, suc, ◌+◌, ◌*◌, ◌≤◌, ◌<◌, length, get_or, set, replicate}
+use Rattle.std.specs.declared.result.Result.{Result}
+use Rattle.std.specs.declared.result.Result.TheVariants.{Ok, Err}
+use Rattle.refusals.specs.Numbers.{number_of}
+use Rattle.refusals.specs.declared.Refusal.{Refusal}
 use Rattle.sampleinfo.specs.declared.InstanceState.{InstanceState}
 use Rattle.sampleinfo.specs.declared.InstanceMetaData.{InstanceMetaData}
 use Rattle.store.specs.Store.{Inst, Store, Wanted, Said, refused, added, Step}
 use Rattle.store.specs.Fit.{depth_of}
-use Rattle.index.specs.Words.{cells_in, put_cell, put_name, put_meta, put_slot}
+use Rattle.index.specs.Words.{cells_in, put_cell, put_name, put_meta, put_slot, slot_in}
 use Rattle.index.specs.Memory.{cells_of, index_of, head_of, shown}
-use Rattle.plan.specs.declared.Outcome.{Outcome}
-use Rattle.plan.specs.declared.Answer.{Answer}
-use Rattle.plan.specs.declared.Answer.TheVariants as answer
+use Rattle.index.specs.declared.Cache.{Cache}
+use Rattle.plan.specs.declared.Planned.{Planned}
 
 abbrev pub wanted : ℕ → ℕ → InstanceState → Wanted
 wanted n t s = record { name = n; time = t; state = s }
 
--- "An add answers key, slot and the handle pushed out, if any": here the slot that is pushed out, 256 for none, and the counts after the step
-abbrev pub answer_of : Said → Answer
-answer_of (refused n) = answer.Refused n
-answer_of (added key slot old counts) = answer.Added key slot old counts
+-- "An add answers key, slot and the handle pushed out, if any": here the slot that is pushed out, and the counts after the step
+abbrev pub Says : Said → Result Planned Refusal → Type 0
+Says (refused n) (Err e) = number_of e ≡ n
+Says (refused n) (Ok p) = ⊥
+Says (added key slot old counts) (Err e) = ⊥
+Says (added key slot old counts) (Ok p) = p ≡ record { head = p.head; key = key; slot = slot; old = slot_in old; counts = counts }
 
--- document 01's number of a refusal, 0 for an add that is accepted
-abbrev pub number_of : Answer → ℕ
-number_of (answer.Added key slot old counts) = 0
-number_of (answer.Refused n) = n
+-- a refusal leaves the header as it is
+abbrev pub head_after : Cache → Result Planned Refusal → Cache
+head_after h (Err e) = h
+head_after h (Ok p) = p.head
 
 -- what an outcome says, its header and the words are those of a step
-pub record Made (st : Step) (r : Outcome) (ws : List ℕ) : Type 0 where
-  pub answer : r.answer ≡ answer_of st.said
-  pub head : shown r.head ≡ head_of st.then
+pub record Made (st : Step) (h : Cache) (r : Result Planned Refusal) (ws : List ℕ) : Type 0 where
+  pub answer : Says st.said r
+  pub head : shown (head_after h r) ≡ head_of st.then
   pub words : ws ≡ index_of st.then
 
 -- an instance that may be put in a row: the window there is its window

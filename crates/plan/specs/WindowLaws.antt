@@ -1,57 +1,20 @@
 -- The window that moves on, in the words and in the store.
-use Rattle.std.specs.Prelude.{◌≡◌, Bool, true, false, cond, get_or, set, take, drop, replicate, ltb, eqb}
+use Rattle.std.specs.Prelude.{◌≡◌, cond, get_or, set, take, drop, replicate, eqb}
 use Rattle.std.proofs.Math.Path.{refl, ap}
-use Rattle.std.proofs.Common.{sym, ◌∙◌, add-zero, mul-le-mul_left, le_of_lt, add-one, arith, lt-ltb, le-ltb, eq-eqb, ne_eqb, length-set, length-append, length-take, length-drop, take-suc, drop-cons, take_all, get_or-append-add, get_or-drop, length-take-le, Fits}
+use Rattle.std.proofs.Common.{sym, ◌∙◌, add-zero, arith, ne_eqb, length-set, length-append, length-drop, take-suc, drop-cons, take_all, get_or-append-add, get_or-drop, length-take-le}
 use mathlib.Core.List.{List, [], ◌∷◌, ◌++◌, append_assoc}
 use Rattle.std.proofs.Math.Option.{Option, some, none}
-use Prim.Native.Nat.{ℕ, zero, suc, ◌+◌, ◌-◌, ◌*◌, ◌≤◌, ◌<◌}
+use Prim.Native.Nat.{ℕ, zero, suc, ◌+◌, ◌*◌, ◌≤◌, ◌<◌}
 use Rattle.std.proofs.Math.ListN.{length}
 use Rattle.std.proofs.lemmas.List.{length-replicate, set_at}
 use Rattle.std.proofs.Math.Seq.{drop-length}
-use Rattle.std.specs.Int.{w64}
-use Rattle.lists.specs.Blocks.{filled, Even, put_at, length-filled, filled-get-or, even-put, even-at}
+use Rattle.lists.specs.Blocks.{filled, Even, put_at, filled-get-or, even-put, even-at}
 use Rattle.store.specs.Store.{moved_on, oldest}
 use Rattle.store.specs.Fit.{depth_of, Deep}
-use Rattle.index.specs.Words.{region, store, words}
+use Rattle.index.specs.Words.{words}
 use Rattle.index.specs.WordLaws.{in_cells, to-cells, block-set, block-get, block_same, none_filled, length-block}
 use Rattle.index.specs.MemoryLaws.{deep_room}
 use Rattle.plan.specs.Plan.{shifting, shift_block, moved_along}
-
--- ---- as the code meets it
-
-pub oldest-none : (d n : ℕ) → d ≡ 0 → 256 ≡ cond (eqb d 0) 256 n
-oldest-none d n e = rw e
-
-pub oldest-some : (d n r : ℕ) → r ≡ n → (d ≡ 0 → ⊥) → r ≡ cond (eqb d 0) 256 n
-oldest-some d n r e h = rw (ne_eqb d 0 h) e
-
-pub product : (d a : ℕ) → d ≤ 256 → a < 32 → d * a ≤ 8192
-product d a h k = omega (arith, mul-le-mul_left d (le_of_lt k))
-
-pub product-fits : (d a : ℕ) → d ≤ 256 → a < 32 → Fits w64 (d * a)
-product-fits d a h k = omega (arith, product d a h k)
-
-pub shift-start : (ws : List ℕ) (b : ℕ) → ws ≡ shifting ws b 0
-unfolding shifting
-shift-start ws b = refl
-
-pub shift-on : (ws w last : List ℕ) (b j c : ℕ) → last ≡ store 160 256 w (b + j) c → c ≡ get_or (region 160 256 w) (b + (j + 1)) 0 → w ≡ shifting ws b j → last ≡ shifting ws b (j + 1)
-unfolding shifting
-shift-on ws w last b j c p q r =
-    let e : last ≡ shifting ws b (suc j) = rw (p, q, r) in
-    e ∙ ap (λ (n : ℕ). shifting ws b n) (sym (add-one j))
-
-pub move-none : (ws : List ℕ) (b d slot : ℕ) → d ≡ 0 → ws ≡ moved_along ws b d slot
-unfolding moved_along
-move-none ws b d slot e = rw e
-
-pub move-last : (ws w last : List ℕ) (b d j slot : ℕ) → last ≡ store 160 256 w (b + (d - 1)) slot → w ≡ shifting ws b j → j ≤ d - 1 → d - 1 ≤ j → (d ≡ 0 → ⊥) → last ≡ moved_along ws b d slot
-unfolding moved_along
-move-last ws w last b zero j slot p q h k n = absurd (n refl)
-move-last ws w last b (suc d) j slot p q h k n =
-    let e : suc d - 1 ≡ d = omega arith in
-    let f : j ≡ d = omega arith in
-    rw (p, e, q, f)
 
 -- ---- in a window alone
 

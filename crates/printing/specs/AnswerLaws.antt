@@ -1,7 +1,8 @@
 -- For a caller that prints an answer line by line: how long lines are, and one more line each turn.
-use Rattle.std.specs.Prelude.{◌≡◌, List, [], ◌∷◌, ◌++◌, ℕ, ◌+◌, ◌*◌, ◌≤◌, length, take, drop}
+use Rattle.std.specs.Prelude.{◌≡◌, List, [], ◌∷◌, ◌++◌, ℕ, ◌+◌, ◌*◌, ◌≤◌, length, take, drop, ℤ}
 use Rattle.std.proofs.Common.{sym, ap, ◌∙◌, append_assoc, append-nil, zero-le, arith, le-leb, length-append}
 use Rattle.std.proofs.Math.Option.{Option, some, none}
+use Rattle.text.specs.Text.{decimal_of, signed_of}
 use Rattle.text.specs.NumberLaws.{decimal-length, signed-length}
 use Rattle.sampleinfo.specs.States.{sample_bit, view_bit, instance_bit, kind_of, handle_of}
 use Rattle.sampleinfo.specs.declared.Info.{Info}
@@ -36,6 +37,25 @@ info-line-length i =
       decimal-length i.sample_rank,
       signed-length i.generation_rank,
       signed-length i.absolute_generation_rank,
+    ))
+
+-- eight numbers and two that may be below 0
+pub ten-words-fit : (a b c d e f g h : ℕ) (y z : ℤ)
+    → length (line_of (decimal_of a ∷ decimal_of b ∷ decimal_of c ∷ decimal_of d ∷ decimal_of e ∷ decimal_of f ∷ decimal_of g ∷ decimal_of h ∷ signed_of y ∷ signed_of z ∷ [])) ≤ line_room
+unfolding line_of
+ten-words-fit a b c d e f g h y z =
+    simp length-append (omega (
+      arith,
+      decimal-length a,
+      decimal-length b,
+      decimal-length c,
+      decimal-length d,
+      decimal-length e,
+      decimal-length f,
+      decimal-length g,
+      decimal-length h,
+      signed-length y,
+      signed-length z,
     ))
 
 pub pair-lines-length : (ps : List Pair) → length (pair_lines ps) ≤ 42 * length ps

@@ -1,12 +1,14 @@
 -- A line laid into a lent buffer.
 use Rattle.std.specs.Prelude.{◌≡◌, Bool, cond, List, ◌++◌, ℕ, ◌+◌, ◌≤◌, leb, length, take, drop}
+use Rattle.std.specs.Prelude.{Some, None}
+use Rattle.text.specs.declared.Page.{Page}
+use Rattle.std.specs.Prelude as std
 use Rattle.std.proofs.Math.Option.{Option, some, none}
-use Rattle.printing.specs.declared.Maybe.{Maybe}
-use Rattle.printing.specs.declared.Maybe.TheVariants as maybe
 
-abbrev pub number_in : Maybe → Option ℕ
-number_in (maybe.Number n) = some n
-number_in maybe.None = none
+-- the code's number or none is the model's
+abbrev pub number_in : std.Option ℕ → Option ℕ
+number_in (Some n) = some n
+number_in None = none
 
 -- the room that is asked for a line: more than any line has
 abbrev pub line_room : ℕ
@@ -36,7 +38,11 @@ pub record Laid (l : List ℕ) (at : ℕ) (s out : List ℕ) (r : ℕ) : Type 0 
   pub place : r ≡ at + length s
   pub long : length out ≡ length l
 
--- and they are at most so many
-pub record Within (most : ℕ) (l : List ℕ) (at : ℕ) (s out : List ℕ) (r : ℕ) : Type 0 where
-  pub laid : Laid l at s out r
-  pub near : r ≤ at + most
+-- the same of a page, which keeps its lent bytes
+pub record AddsLine (old : Page) (s : List ℕ) (new : Page) : Type 0 where
+  pub line : Lined old.bytes.now old.at s new.bytes.now new.at
+  pub same : new.bytes.ghost_name ≡ old.bytes.ghost_name
+
+pub record Adds (old : Page) (s : List ℕ) (new : Page) : Type 0 where
+  pub laid : Laid old.bytes.now old.at s new.bytes.now new.at
+  pub same : new.bytes.ghost_name ≡ old.bytes.ghost_name

@@ -1,16 +1,16 @@
 -- The records of a session, said once: the bytes behind the two length bytes, "an operation byte, big-endian fields", to a request in the code's own types
 -- (src/lib.rt), and the call of the model that a request means.
-use Rattle.std.specs.Prelude.{Bool, true, false, not, cond, List, [], ◌∷◌, ◌++◌, ℕ, zero, suc, ◌+◌, ◌-◌, ◌*◌, ltb, eqb, length, get_or, ℤ, pos, negsuc}
+use Rattle.std.specs.Prelude.{Bool, true, false, not, cond, List, [], ◌∷◌, ◌++◌, ℕ, zero, suc, ◌+◌, ◌-◌, ◌*◌, ltb, eqb, length, get_or, ℤ, pos, negsuc, Some, None}
 use Rattle.std.proofs.Math.Option.{Option, some, none}
+use Rattle.std.specs.Prelude.{Option as Option'}
 use Rattle.readcondition.specs.declared.ReadCondition.{ReadCondition}
 use Rattle.readcondition.specs.Masks.{condition, is_valid}
 use Rattle.model.specs.Pairs.{Pair}
 use Rattle.model.specs.Model as model
 use Rattle.records.specs.declared.SetUp.{SetUp}
 use Rattle.records.specs.declared.Arrival.{Arrival}
-use Rattle.records.specs.declared.Op.{Op}
-use Rattle.records.specs.declared.Op.TheVariants as op
 use Rattle.records.specs.declared.Request.{Request}
+use Rattle.records.specs.declared.Request.TheVariants as request
 
 -- ---- fields
 
@@ -57,17 +57,18 @@ set_up_in rec = record { mode = byte_at rec 1; keep = twos (number_at 4 rec 2); 
 abbrev pub add_size : ℕ
 add_size = 46
 
+abbrev pub writer_in : List ℕ → List ℕ
+writer_in rec = bytes_at 16 rec 9
+
 abbrev pub arrival_in : List ℕ → Arrival
 arrival_in rec = record {
   instance = instance_in rec;
+  writer = writer_in rec;
   sequence_number = number_at 8 rec 25;
   time = number_at 8 rec 33;
   kind = byte_at rec 41;
   handle = number_at 4 rec 42;
 }
-
-abbrev pub writer_in : List ℕ → List ℕ
-writer_in rec = bytes_at 16 rec 9
 
 -- "2 no writers: instance"
 abbrev pub no_writers_size : ℕ
@@ -101,48 +102,44 @@ next_key_size = 9
 -- ---- the request
 
 -- "A wrong length": malformed
-abbrev pub sized_op : ℕ → List ℕ → Op → Op
-sized_op n rec o = cond (eqb (length rec) n) o op.Malformed
+abbrev pub sized_op : ℕ → List ℕ → Request → Option' Request
+sized_op n rec q = cond (eqb (length rec) n) (Some q) None
 
 -- "A wrong .. operation": malformed too
-unfoldable pub op_at : ℕ → List ℕ → Op
+unfoldable pub op_at : ℕ → List ℕ → Option' Request
 op_at o rec =
-    cond (eqb o 0) (sized_op set_up_size rec (op.SetUp (set_up_in rec)))
-    (cond (eqb o 1) (sized_op add_size rec (op.Add (arrival_in rec)))
-    (cond (eqb o 2) (sized_op no_writers_size rec (op.NoWriters (instance_in rec)))
-    (cond (eqb o 3) (sized_op choose_size rec (op.Choose (masks_at rec 1)))
-    (cond (eqb o 4) (sized_op choose_within_size rec (op.ChooseWithin (instance_in rec) (masks_at rec 9)))
-    (cond (eqb o 5) (sized_op (list_size (count_in rec)) rec (op.Read (count_in rec)))
-    (cond (eqb o 6) (sized_op (list_size (count_in rec)) rec (op.Take (count_in rec)))
-    (cond (eqb o 7) (sized_op next_key_size rec (op.NextKey (instance_in rec)))
-    op.Malformed)))))))
+    cond (eqb o 0) (sized_op set_up_size rec (request.SetUp (set_up_in rec)))
+    (cond (eqb o 1) (sized_op add_size rec (request.Add (arrival_in rec)))
+    (cond (eqb o 2) (sized_op no_writers_size rec (request.NoWriters (instance_in rec)))
+    (cond (eqb o 3) (sized_op choose_size rec (request.Choose (masks_at rec 1)))
+    (cond (eqb o 4) (sized_op choose_within_size rec (request.ChooseWithin (instance_in rec) (masks_at rec 9)))
+    (cond (eqb o 5) (sized_op (list_size (count_in rec)) rec (request.Read (count_in rec)))
+    (cond (eqb o 6) (sized_op (list_size (count_in rec)) rec (request.Take (count_in rec)))
+    (cond (eqb o 7) (sized_op next_key_size rec (request.NextKey (instance_in rec)))
+    None)))))))
 
-abbrev pub op_in : List ℕ → Op
-op_in rec = op_at (byte_at rec 0) rec
-
--- the bytes of the writer are an add's: of another operation nobody asks for them
-abbrev pub request_of : List ℕ → Request
-request_of rec = record { op = op_in rec; writer = writer_in rec }
+abbrev pub request_of : List ℕ → Option' Request
+request_of rec = op_at (byte_at rec 0) rec
 
 -- ---- the pairs of a list record, a key and its instance each
 
-abbrev pub count_of : Op → ℕ
-count_of (op.SetUp u) = 0
-count_of (op.Add a) = 0
-count_of (op.NoWriters n) = 0
-count_of (op.Choose c) = 0
-count_of (op.ChooseWithin n c) = 0
-count_of (op.Read n) = n
-count_of (op.Take n) = n
-count_of (op.NextKey n) = 0
-count_of op.Malformed = 0
+abbrev pub count_of : Option' Request → ℕ
+count_of (Some (request.SetUp u)) = 0
+count_of (Some (request.Add a)) = 0
+count_of (Some (request.NoWriters n)) = 0
+count_of (Some (request.Choose c)) = 0
+count_of (Some (request.ChooseWithin n c)) = 0
+count_of (Some (request.Read n)) = n
+count_of (Some (request.Take n)) = n
+count_of (Some (request.NextKey n)) = 0
+count_of None = 0
 
 unfoldable pub pairs_from : ℕ → List ℕ → ℕ → List Pair
 pairs_from zero rec at = []
 pairs_from (suc n) rec at = record { key = number_at 8 rec at; name = number_at 8 rec (at + 8) } ∷ pairs_from n rec (at + pair_size)
 
 abbrev pub list_count : List ℕ → ℕ
-list_count rec = count_of (op_in rec)
+list_count rec = count_of (request_of rec)
 
 abbrev pub list_pairs : List ℕ → List Pair
 list_pairs rec = pairs_from (list_count rec) rec pairs_at
@@ -156,22 +153,22 @@ buffer = 256
 abbrev pub set_up_meant : SetUp → model.SetUp
 set_up_meant u = record { mode = u.mode; keep = u.keep; instances = u.instances }
 
-abbrev pub arrival_meant : Arrival → List ℕ → model.Arrival
-arrival_meant a w = record { name = a.instance; writer = w; seq = a.sequence_number; time = a.time; kind = a.kind; handle = a.handle }
+abbrev pub arrival_meant : Arrival → model.Arrival
+arrival_meant a = record { name = a.instance; writer = a.writer; seq = a.sequence_number; time = a.time; kind = a.kind; handle = a.handle }
 
-abbrev pub op_meant : Op → List ℕ → List Pair → Option model.Call
-op_meant (op.SetUp u) w ps = some (model.set_up (set_up_meant u))
-op_meant (op.Add a) w ps = some (model.add (arrival_meant a w))
-op_meant (op.NoWriters n) w ps = some (model.no_writers n)
-op_meant (op.Choose c) w ps = some (model.choose none c buffer)
-op_meant (op.ChooseWithin n c) w ps = some (model.choose (some n) c buffer)
-op_meant (op.Read n) w ps = some (model.read_or_take false ps buffer)
-op_meant (op.Take n) w ps = some (model.read_or_take true ps buffer)
-op_meant (op.NextKey n) w ps = some (model.next_key n)
-op_meant op.Malformed w ps = none
+abbrev pub op_meant : Request → List Pair → model.Call
+op_meant (request.SetUp u) ps = model.set_up (set_up_meant u)
+op_meant (request.Add a) ps = model.add (arrival_meant a)
+op_meant (request.NoWriters n) ps = model.no_writers n
+op_meant (request.Choose c) ps = model.choose none c buffer
+op_meant (request.ChooseWithin n c) ps = model.choose (some n) c buffer
+op_meant (request.Read n) ps = model.read_or_take false ps buffer
+op_meant (request.Take n) ps = model.read_or_take true ps buffer
+op_meant (request.NextKey n) ps = model.next_key n
 
-abbrev pub call_meant : Request → List Pair → Option model.Call
-call_meant r ps = op_meant r.op r.writer ps
+abbrev pub call_meant : Option' Request → List Pair → Option model.Call
+call_meant (Some q) ps = some (op_meant q ps)
+call_meant None ps = none
 
 -- a record's call; none where it is malformed
 abbrev pub call_of : List ℕ → Option model.Call

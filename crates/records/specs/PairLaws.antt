@@ -1,7 +1,7 @@
 -- The bytes of a writer and the words of a list record, as they are laid into memory one by one.
-use Rattle.std.specs.Prelude.{◌≡◌, Bool, true, false, cond, List, [], ◌++◌, eqb, get_or, take, drop, set}
+use Rattle.std.specs.Prelude.{◌≡◌, Bool, true, false, cond, List, ◌++◌, eqb, get_or, take, drop, set}
 use Rattle.std.proofs.Math.Path.{refl, ap}
-use Rattle.std.proofs.Common.{sym, ◌∙◌, append_assoc, add-one, take-suc-set, length-take-le, take_all}
+use Rattle.std.proofs.Common.{sym, ◌∙◌, append_assoc, add-one, length-take-le}
 use Prim.Native.Nat.{ℕ, zero, suc, ◌+◌, ◌*◌, ◌≤◌, ◌<◌}
 use native.Mathlib.Omega.{arith}
 use Rattle.std.proofs.Math.Nat.{add-zero}
@@ -9,23 +9,11 @@ use borrow.Author.Tests.{eqb-true, lt-leb, le-leb}
 use Rattle.std.proofs.Math.ListN.{length}
 use Rattle.std.proofs.Math.Seq.{drop-cons, take-suc, take-length, take-append_seam}
 use Rattle.std.proofs.lemmas.List.{set_at}
-use Rattle.records.specs.declared.Op.{Op}
-use Rattle.records.specs.declared.Op.TheVariants as op
-use Rattle.records.specs.Format.{byte_at, number_at, bytes_at, too_long, instance_in, masks_at, set_up_size, set_up_in, add_size, arrival_in, no_writers_size, choose_size, choose_within_size, count_in, pairs_at, pair_size, list_size, next_key_size, sized_op, op_at, count_of, pairs_from, list_count}
+use Rattle.std.specs.Prelude.{Option, Some, None}
+use Rattle.records.specs.declared.Request.{Request}
+use Rattle.records.specs.declared.Request.TheVariants as request
+use Rattle.records.specs.Format.{byte_at, number_at, too_long, instance_in, masks_at, set_up_size, set_up_in, add_size, arrival_in, no_writers_size, choose_size, choose_within_size, count_in, pairs_at, pair_size, list_size, next_key_size, sized_op, op_at, count_of, pairs_from, list_count}
 use Rattle.records.specs.Words.{list_words, words_of, words_in, laid_in}
-
--- ---- the writer
-
-pub writer-start : (rec : List ℕ) (at : ℕ) → [] ≡ bytes_at 0 rec at
-unfolding bytes_at
-writer-start rec at = refl
-
-pub writer-turn : (w rec : List ℕ) (at i b : ℕ) → take i w ≡ bytes_at i rec at → b ≡ byte_at rec (at + i) → length w ≡ 16 → i < 16 → take (i + 1) (set w i b) ≡ bytes_at (i + 1) rec at
-unfolding bytes_at
-writer-turn w rec at i b e f n h = rw (add-one i, take-suc-set w i b (omega arith), e, f)
-
-pub writer-end : (w rec : List ℕ) (at i : ℕ) → take i w ≡ bytes_at i rec at → length w ≡ 16 → i ≤ 16 → 16 ≤ i → w ≡ bytes_at 16 rec at
-writer-end w rec at i e n h k = let z : i ≡ 16 = omega arith in sym (take_all 16 w (omega arith)) ∙ (rw z at e)
 
 -- ---- words at the front of a list
 
@@ -82,34 +70,34 @@ module _ (rec l : List ℕ) (n : ℕ) (e : n ≡ 2 * list_count rec) where
 -- ---- the pairs of any record have room in the words of the longest list
 
 module _ (rec : List ℕ) where
-  abbrev Held : Op → Type 0
-  Held o = pair_size * count_of o ≤ length rec
+  abbrev Held : Option Request → Type 0
+  Held q = pair_size * count_of q ≤ length rec
 
-  either : (b : Bool) (x y : Op) → Held x → Held y → Held (cond b x y)
+  either : (b : Bool) (x y : Option Request) → Held x → Held y → Held (cond b x y)
   either true x y p q = p
   either false x y p q = q
 
-  none-held : (n : ℕ) (o : Op) → count_of o ≡ 0 → Held (sized_op n rec o)
-  none-held n o e = either (eqb (length rec) n) o op.Malformed (rw e (omega arith)) (omega arith)
+  none-held : (n : ℕ) (q : Request) → count_of (Some q) ≡ 0 → Held (sized_op n rec q)
+  none-held n q e = either (eqb (length rec) n) (Some q) None (rw e (omega arith)) (omega arith)
 
-  list_held : (o : Op) → count_of o ≡ count_in rec → Held (sized_op (list_size (count_in rec)) rec o)
-  list_held o e = go (eqb (length rec) (list_size (count_in rec))) refl
+  list_held : (q : Request) → count_of (Some q) ≡ count_in rec → Held (sized_op (list_size (count_in rec)) rec q)
+  list_held q e = go (eqb (length rec) (list_size (count_in rec))) refl
     where
-      go : (b : Bool) → eqb (length rec) (list_size (count_in rec)) ≡ b → Held (cond b o op.Malformed)
-      go true q = rw e (omega (arith, eqb-true (length rec) (list_size (count_in rec)) q))
-      go false q = omega arith
+      go : (b : Bool) → eqb (length rec) (list_size (count_in rec)) ≡ b → Held (cond b (Some q) None)
+      go true p = rw e (omega (arith, eqb-true (length rec) (list_size (count_in rec)) p))
+      go false p = omega arith
 
   held : (o : ℕ) → Held (op_at o rec)
   unfolding op_at
   held o =
-      either (eqb o 0) _ _ (none-held set_up_size (op.SetUp (set_up_in rec)) refl)
-      (either (eqb o 1) _ _ (none-held add_size (op.Add (arrival_in rec)) refl)
-      (either (eqb o 2) _ _ (none-held no_writers_size (op.NoWriters (instance_in rec)) refl)
-      (either (eqb o 3) _ _ (none-held choose_size (op.Choose (masks_at rec 1)) refl)
-      (either (eqb o 4) _ _ (none-held choose_within_size (op.ChooseWithin (instance_in rec) (masks_at rec 9)) refl)
-      (either (eqb o 5) _ _ (list_held (op.Read (count_in rec)) refl)
-      (either (eqb o 6) _ _ (list_held (op.Take (count_in rec)) refl)
-      (either (eqb o 7) _ op.Malformed (none-held next_key_size (op.NextKey (instance_in rec)) refl) (omega arith))))))))
+      either (eqb o 0) _ _ (none-held set_up_size (request.SetUp (set_up_in rec)) refl)
+      (either (eqb o 1) _ _ (none-held add_size (request.Add (arrival_in rec)) refl)
+      (either (eqb o 2) _ _ (none-held no_writers_size (request.NoWriters (instance_in rec)) refl)
+      (either (eqb o 3) _ _ (none-held choose_size (request.Choose (masks_at rec 1)) refl)
+      (either (eqb o 4) _ _ (none-held choose_within_size (request.ChooseWithin (instance_in rec) (masks_at rec 9)) refl)
+      (either (eqb o 5) _ _ (list_held (request.Read (count_in rec)) refl)
+      (either (eqb o 6) _ _ (list_held (request.Take (count_in rec)) refl)
+      (either (eqb o 7) _ None (none-held next_key_size (request.NextKey (instance_in rec)) refl) (omega arith))))))))
 
 pub words-fit : (rec : List ℕ) → length rec < too_long → length (words_in rec) ≤ list_words
 words-fit rec h = omega (arith, words-length rec (list_count rec) pairs_at, held rec (byte_at rec 0))

@@ -2,13 +2,12 @@
 #![tactic(auto)]
 
 ghost use Rattle.std.specs.Prelude.{◌≡◌, [], ◌+◌, ◌*◌, ◌≤◌, length};
-ghost use Rattle.records.specs.Format.{byte_at, number_at, twos, bytes_at, masks_at, instance_in, set_up_in, arrival_in, writer_in, count_in, list_size, sized_op, op_in, request_of, count_of, list_count, call_meant, bad};
+ghost use Rattle.records.specs.Format.{byte_at, number_at, twos, bytes_at, masks_at, instance_in, set_up_in, arrival_in, writer_in, count_in, list_size, sized_op, request_of, count_of, list_count, op_meant, call_meant, faulty, bad};
 ghost use Rattle.records.specs.Words.{words_in, laid_in};
-ghost use Rattle.records.specs.NumberLaws.{Numbered};
 ghost use Rattle.records.specs.RequestLaws.{faulty_arrival};
 
 use readcondition::ReadCondition;
-use sampleinfo::BodyMade;
+use sampleinfo::Body;
 
 // The fields of a set-up.
 #[derive(Clone, Copy)]
@@ -18,10 +17,11 @@ pub struct SetUp {
     pub instances: u16,
 }
 
-// The fields of an add, but for the writer.
+// The fields of an add.
 #[derive(Clone, Copy)]
 pub struct Arrival {
     pub instance: u64,
+    pub writer: [u8; 16],
     pub sequence_number: u64,
     pub time: u64,
     pub kind: u8,
@@ -30,7 +30,7 @@ pub struct Arrival {
 
 // A list record gives its count here, and its pairs by pairs_of.
 #[derive(Clone, Copy)]
-pub enum Op {
+pub enum Request {
     SetUp(SetUp),
     Add(Arrival),
     NoWriters(u64),
@@ -39,14 +39,6 @@ pub enum Op {
     Read(u16),
     Take(u16),
     NextKey(u64),
-    Malformed,
-}
-
-// The operation, and the writer of an add beside it, since an enum holds no array; of another operation the writer says nothing.
-#[derive(Clone, Copy)]
-pub struct Request {
-    pub op: Op,
-    pub writer: [u8; 16],
 }
 
 // ---- the size of each record, operation byte and fields; a list's goes by its count
@@ -74,73 +66,49 @@ const PAIR_SIZE: usize = 16;
 pub fn byte(rec: &[u8], at: usize, i: usize) -> u8
     ensures { result ≡ byte_at rec.now (at + i) }
 {
-    if rec.len() <= at {
-        return 0;
-    }
-    if rec.len() - at <= i {
-        return 0;
-    }
-    rec[at + i]
+    rec.get(at.saturating_add(i)).copied().unwrap_or(0)
 }
 
-fn number(rec: &[u8], at: usize, bytes: usize) -> u64
-    requires { bytes ≤ 8 }
-    ensures { Numbered bytes rec.now at result }
+// The N bytes from place at on.
+fn bytes_at<const N: usize>(rec: &[u8], at: usize) -> [u8; N]
+    ensures { result ≡ bytes_at N rec.now at }
 {
-    let mut n: u64 = 0;
-    let mut i = 0;
-    while i < bytes {
-        n = n * 256 + (byte(rec, at, i) as u64);
-        i += 1;
+    let mut bytes = [0; N];
+    for (i, b) in bytes.iter_mut().enumerate() {
+        *b = byte(rec, at, i);
     }
-    n
+    bytes
 }
 
 pub fn u16_at(rec: &[u8], at: usize) -> u16
     ensures { result ≡ number_at 2 rec.now at }
 {
-    number(rec, at, 2) as u16
+    u16::from_be_bytes(bytes_at(rec, at))
 }
 
 pub fn u32_at(rec: &[u8], at: usize) -> u32
     ensures { result ≡ number_at 4 rec.now at }
 {
-    number(rec, at, 4) as u32
+    u32::from_be_bytes(bytes_at(rec, at))
 }
 
 pub fn u64_at(rec: &[u8], at: usize) -> u64
     ensures { result ≡ number_at 8 rec.now at }
 {
-    number(rec, at, 8)
-}
-
-// The signed number of 32 bits.
-fn signed(n: u32) -> i32
-    ensures { result ≡ twos n }
-{
-    if n < 2147483648 {
-        return n as i32;
-    }
-    -((4294967295 - n) as i32) - 1
+    u64::from_be_bytes(bytes_at(rec, at))
 }
 
 pub fn i32_at(rec: &[u8], at: usize) -> i32
     ensures { result ≡ twos (number_at 4 rec.now at) }
 {
-    signed(u32_at(rec, at))
+    i32::from_be_bytes(bytes_at(rec, at))
 }
 
 // The 16 bytes of a writer.
 pub fn writer_at(rec: &[u8], at: usize) -> [u8; 16]
     ensures { result ≡ bytes_at 16 rec.now at }
 {
-    let mut writer = [0u8; 16];
-    let mut i = 0;
-    while i < 16 {
-        writer[i] = byte(rec, at, i);
-        i += 1;
-    }
-    writer
+    bytes_at(rec, at)
 }
 
 fn masks(rec: &[u8], at: usize) -> ReadCondition
@@ -171,22 +139,23 @@ fn set_up_in(rec: &[u8]) -> SetUp
     }
 }
 
+fn writer_in(rec: &[u8]) -> [u8; 16]
+    ensures { result ≡ writer_in rec.now }
+{
+    writer_at(rec, 9)
+}
+
 fn arrival_in(rec: &[u8]) -> Arrival
     ensures { result ≡ arrival_in rec.now }
 {
     Arrival {
         instance: instance_in(rec),
+        writer: writer_in(rec),
         sequence_number: u64_at(rec, 25),
         time: u64_at(rec, 33),
         kind: byte(rec, 41, 0),
         handle: u32_at(rec, 42),
     }
-}
-
-fn writer_in(rec: &[u8]) -> [u8; 16]
-    ensures { result ≡ writer_in rec.now }
-{
-    writer_at(rec, 9)
 }
 
 fn count_in(rec: &[u8]) -> u16
@@ -205,63 +174,46 @@ fn list_size(count: u16) -> usize
 // ---- the request
 
 // A wrong length is malformed.
-fn sized(size: usize, rec: &[u8], op: Op) -> Op
-    ensures { result ≡ sized_op size rec.now op }
+fn sized(size: usize, rec: &[u8], q: Request) -> Option<Request>
+    ensures { result ≡ sized_op size rec.now q }
 {
-    if rec.len() == size {
-        return op;
-    }
-    Op::Malformed
+    (rec.len() == size).then_some(q)
 }
 
-fn op_in(rec: &[u8]) -> Op
-    ensures { result ≡ op_in rec.now }
+// A record to a request; none where it is malformed.
+#[tactic(auto, unfolding(crate::specs::Format::op_at))]
+pub fn decode(rec: &[u8]) -> Option<Request>
+    ensures { result ≡ request_of rec.now }
 {
     let op = byte(rec, 0, 0);
     let count = count_in(rec);
     match op {
-        0 => sized(SET_UP_SIZE, rec, Op::SetUp(set_up_in(rec))),
-        1 => sized(ADD_SIZE, rec, Op::Add(arrival_in(rec))),
-        2 => sized(NO_WRITERS_SIZE, rec, Op::NoWriters(instance_in(rec))),
-        3 => sized(CHOOSE_SIZE, rec, Op::Choose(masks(rec, 1))),
+        0 => sized(SET_UP_SIZE, rec, Request::SetUp(set_up_in(rec))),
+        1 => sized(ADD_SIZE, rec, Request::Add(arrival_in(rec))),
+        2 => sized(NO_WRITERS_SIZE, rec, Request::NoWriters(instance_in(rec))),
+        3 => sized(CHOOSE_SIZE, rec, Request::Choose(masks(rec, 1))),
         4 => sized(
             CHOOSE_WITHIN_SIZE,
             rec,
-            Op::ChooseWithin(instance_in(rec), masks(rec, 9)),
+            Request::ChooseWithin(instance_in(rec), masks(rec, 9)),
         ),
-        5 => sized(list_size(count), rec, Op::Read(count)),
-        6 => sized(list_size(count), rec, Op::Take(count)),
-        7 => sized(NEXT_KEY_SIZE, rec, Op::NextKey(instance_in(rec))),
-        _ => Op::Malformed,
-    }
-}
-
-// A record to a request.
-pub fn decode(rec: &[u8]) -> Request
-    ensures { result ≡ request_of rec.now }
-{
-    Request {
-        op: op_in(rec),
-        writer: writer_in(rec),
+        5 => sized(list_size(count), rec, Request::Read(count)),
+        6 => sized(list_size(count), rec, Request::Take(count)),
+        7 => sized(NEXT_KEY_SIZE, rec, Request::NextKey(instance_in(rec))),
+        _ => None,
     }
 }
 
 // ---- pairs
 
 // The count of a list record; 0 of any other.
-fn count(op: Op) -> u16
-    ensures { result ≡ count_of op }
+fn count(q: Option<Request>) -> u16
+    ensures { result ≡ count_of q }
 {
-    match op {
-        Op::SetUp(_) => 0,
-        Op::Add(_) => 0,
-        Op::NoWriters(_) => 0,
-        Op::Choose(_) => 0,
-        Op::ChooseWithin(_, _) => 0,
-        Op::Read(n) => n,
-        Op::Take(n) => n,
-        Op::NextKey(_) => 0,
-        Op::Malformed => 0,
+    match q {
+        Some(Request::Read(n)) => n,
+        Some(Request::Take(n)) => n,
+        _ => 0,
     }
 }
 
@@ -270,7 +222,7 @@ fn words(rec: &[u8]) -> usize
     ensures value { result ≡ 2 * list_count rec.now }
     ensures upper_bound { result ≤ 131070 }
 {
-    2 * (count(op_in(rec)) as usize)
+    2 * (count(decode(rec)) as usize)
 }
 
 // The pairs of a list record go to the front of the lent words, a key and then its instance, and the answer is the number of words.
@@ -280,25 +232,23 @@ pub fn pairs_of(rec: &[u8], out: &mut [u64]) -> usize
     ensures out_after { out.new ≡ laid_in out.old (words_in rec.now) }
 {
     let n = words(rec);
-    if out.len() < n {
-        return n;
-    }
-    let mut i = 0;
-    while i < n {
-        out[i] = u64_at(rec, PAIRS_AT + 8 * i);
-        i += 1;
+    if n <= out.len() {
+        for i in 0..n {
+            out[i] = u64_at(rec, PAIRS_AT + 8 * i);
+        }
     }
     n
 }
 
 // ---- refusal 1
 
-fn is_faulty(a: Arrival) -> bool
-    ensures { result ≡ faulty_arrival a }
-{
-    match sampleinfo::Body::arrived(a.kind, a.handle, a.sequence_number) {
-        BodyMade::Refused => true,
-        BodyMade::Body(_) => false,
+impl Arrival {
+    // A kind or sequence number out of its bounds.
+    #[tactic(auto, using(crate::specs::RequestLaws::arrival_faulty))]
+    fn is_faulty(self) -> bool
+        ensures { result ≡ faulty_arrival self }
+    {
+        Body::arrived(self.kind, self.handle, self.sequence_number).is_none()
     }
 }
 
@@ -308,17 +258,22 @@ impl Request {
 
     pub const LIST_WORDS: usize = 2 * (Request::LONGEST / PAIR_SIZE);
 
-    // The record is refused with 1, whatever came before it: malformed, or a kind, sequence number or mask out of its bounds.
-    pub fn is_bad(self) -> bool
-        ensures { result ≡ bad (call_meant self []) }
+    // A kind, sequence number or mask out of its bounds.
+    fn is_faulty(self) -> bool
+        ensures { result ≡ faulty (op_meant self []) }
     {
-        let op = self.op;
-        match op {
-            Op::Add(a) => is_faulty(a),
-            Op::Choose(c) => !c.is_valid(),
-            Op::ChooseWithin(_, c) => !c.is_valid(),
-            Op::Malformed => true,
+        match self {
+            Request::Add(a) => a.is_faulty(),
+            Request::Choose(c) => !c.is_valid(),
+            Request::ChooseWithin(_, c) => !c.is_valid(),
             _ => false,
         }
+    }
+
+    // The record is refused with 1, whatever came before it: malformed, or with a field out of its bounds.
+    pub fn is_bad(q: Option<Request>) -> bool
+        ensures { result ≡ bad (call_meant q []) }
+    {
+        q.is_none_or(Request::is_faulty)
     }
 }

@@ -1,5 +1,5 @@
 -- An add on the store of a model is the add on the model.
-use Rattle.std.specs.Prelude.{◌≡◌, Bool, true, ◌&&◌, cond, ℕ, zero, suc, ◌+◌, ◌≤◌, ◌<◌, length, get_or, set, ltb, leb, eqb}
+use Rattle.std.specs.Prelude.{Some, None, ◌≡◌, Bool, true, ◌&&◌, cond, ℕ, zero, suc, ◌+◌, ◌≤◌, ◌<◌, length, get_or, set, ltb, leb, eqb}
 use Rattle.std.proofs.Math.Path.{refl, sym, ap}
 use Rattle.std.proofs.Common.{◌∙◌, add-one, lt-ltb, le-ltb, ltb-true, ltb-false, leb-true, eq-eqb, ne_eqb}
 use Rattle.std.proofs.Math.Bool.{false}
@@ -13,9 +13,7 @@ use Rattle.slots.specs.Bits.{first_one}
 use Rattle.sampleinfo.specs.Lifecycle.{counts_of, is_last, lifecycle_of}
 use Rattle.sampleinfo.specs.Samples.{empty_sample}
 use Rattle.keys.specs.Keys as K
-use Rattle.keys.specs.declared.Last.TheVariants as last
-use Rattle.keys.specs.declared.Issued.{Issued}
-use Rattle.keys.specs.declared.Issued.TheVariants as issued
+use Rattle.keys.specs.Keys.{Issued}
 use Rattle.model.specs.Model.{Model, Instance, Live, Arrival, Place, gone, held, find, is_new, unkept, no_key, key_in, keyed, issue_of, state_in, well_formed, lives, live_in, live_of, push, pushed_out, old_of, or_fresh, refusal_of, arrived, roomy, slot_of, lowest_from, accept, adding, count, in_slot}
 use Rattle.model.proofs.Slots.{lowest-below, lowest-free, not-reached}
 use Rattle.model.proofs.Counting.{roomy-count, new, count-true, count-append, window-live}
@@ -159,7 +157,7 @@ module _ (m : Model) (g : Good m) (a : Arrival) where
     no-such-key : count (has_key key) (lives (roomy m a)) ≡ 0
     no-such-key = omega (arith, roomy-count m a (has_key key), g.keys key, not-reached m.last key (key-new m a k-new))
 
-    newest-done : newest_of (last.Key key) (lives (new m a (held mine))) ≡ slot_of m a
+    newest-done : newest_of (Some key) (lives (new m a (held mine))) ≡ slot_of m a
     newest-done = ap slot_or_none (ap (keyed key) (sym (lives-of 0 (new m a (held mine))) ∙ ap lives_in (entries-held mine ∙ after-as a-part b-part at stay mine) ∙ map-append (λ (e : Entry). e.live) (a-part ++ map (entry at) stay) (entry at mine ∷ b-part))
         ∙ keyed-here key (lives_in (a-part ++ map (entry at) stay)) (lives_in b-part) mine none_before refl)
       where
@@ -268,8 +266,8 @@ module _ (m : Model) (g : Good m) (a : Arrival) where
   adding-is w = ap (λ l. S.issuing (store_of m) (wanted_of a) (K.key_of l a.time)) last_of ∙ go (issue_of m a) refl ∙ sym (step-as ∙ rw w)
     where
       go : (x : Issued) → issue_of m a ≡ x → S.issuing (store_of m) (wanted_of a) x ≡ pick (cond (no_key (issue_of m a)) 6 (cond four 4 (cond seven 7 (cond five 5 0))))
-      go issued.Refused e = rw e
-      go (issued.Key k) e =
+      go None e = rw e
+      go (Some k) e =
           let p : no_key (issue_of m a) ≡ false = rw e in
           let q : key_in (issue_of m a) ≡ k = rw e in
           rw (p, ← q) (keying-is p)

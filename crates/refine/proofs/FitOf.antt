@@ -1,12 +1,11 @@
 -- A good cache's store is fit.
-use Rattle.std.specs.Prelude.{◌≡◌, refl, Bool, true, false, cond, List, [], ◌∷◌, map, ℕ, zero, suc, ◌+◌, ◌≤◌, ◌<◌, eqb, ltb, length, get_or}
+use Rattle.std.specs.Prelude.{Some, None, ◌≡◌, refl, Bool, true, false, cond, List, [], ◌∷◌, map, ℕ, zero, suc, ◌+◌, ◌≤◌, ◌<◌, eqb, ltb, length, get_or}
 use Rattle.std.proofs.Common.{ap, ◌∙◌, not-suc-le-zero, le_of_suc-le-suc, arith, eq-eqb, ltb-true}
 use Rattle.std.proofs.Math.Option.{Option, some, none}
 use Rattle.std.proofs.lemmas.List.{length-map}
 use Rattle.lists.specs.Every.{Every}
 use Rattle.lists.specs.Count.{bit}
-use Rattle.keys.specs.declared.Last.{Last}
-use Rattle.keys.specs.declared.Last.TheVariants as last
+use Rattle.keys.specs.Keys.{Last}
 use Rattle.store.specs.Fit.{Fit, depth_of}
 use Rattle.store.specs.Store.{Inst, no_inst}
 use Rattle.model.specs.Model.{Model, Instance, Live, lives, count, in_slot, keyed}
@@ -40,8 +39,8 @@ in-a-slot s (x ∷ ss) k e = go (eqb x.key k) e (in-a-slot s ss k)
     go false q r = omega (arith, r q)
 
 newest-le : (l : Last) (ss : List Live) → ((j : ℕ) → count (in_slot j) ss ≤ bit (ltb j 256)) → newest_of l ss ≤ 256
-newest-le last.Never ss h = omega arith
-newest-le (last.Key k) ss h = go (keyed k ss) refl
+newest-le None ss h = omega arith
+newest-le (Some k) ss h = go (keyed k ss) refl
   where
     go : (o : Option Live) → keyed k ss ≡ o → slot_or_none o ≤ 256
     go none e = omega arith

@@ -1,5 +1,5 @@
 -- A list taken or read on the model is its slots freed, cleared or marked one after the other.
-use Rattle.std.specs.Prelude.{◌≡◌, Bool, true, false, ◌&&◌, ◌||◌, not, cond, ℕ, get_or, eqb}
+use Rattle.std.specs.Prelude.{◌≡◌, Bool, true, false, ◌&&◌, ◌||◌, cond, ℕ, get_or, eqb}
 use Rattle.std.proofs.Math.Path.{refl}
 use Rattle.std.proofs.Common.{sym, ap, ◌∙◌, true≢false, eq-eqb, eqb-true}
 use mathlib.Core.List.{List, [], ◌∷◌, map}

@@ -1,5 +1,5 @@
 -- A fresh cache is good, and every call keeps it so.
-use Rattle.std.specs.Prelude.{◌≡◌, refl, Bool, true, false, ◌&&◌, ◌||◌, cond, List, [], ◌∷◌, ◌++◌, map, ℕ, ◌+◌, ◌*◌, ◌≤◌, ◌<◌, eqb, ltb, ℤ, pos, negsuc, length}
+use Rattle.std.specs.Prelude.{Some, None, ◌≡◌, refl, Bool, true, false, ◌&&◌, ◌||◌, cond, List, [], ◌∷◌, ◌++◌, map, ℕ, ◌+◌, ◌*◌, ◌≤◌, ◌<◌, eqb, ltb, ℤ, pos, negsuc, length}
 use Rattle.std.proofs.Common.{sym, ap, ◌∙◌, true≢false, mul_comm, arith, eqb-true, eq-eqb, lt-ltb, le-leb, leb-true, leb-false}
 use Rattle.std.proofs.Math.Option.{Option, some, none}
 use Rattle.std.proofs.Math.Dec.{leb}
@@ -11,10 +11,8 @@ use Rattle.sampleinfo.specs.Lifecycle.{state_of, counts_of, is_reborn, is_last, 
 use Rattle.sampleinfo.specs.LifecycleLaws.{total-after}
 use Rattle.sampleinfo.specs.declared.InstanceState.{InstanceState}
 use Rattle.sampleinfo.specs.declared.InstanceMetaData.{InstanceMetaData}
-use Rattle.keys.specs.Keys.{Later}
-use Rattle.keys.specs.declared.Last.{Last}
-use Rattle.keys.specs.declared.Last.TheVariants as last
-use Rattle.store.specs.Fit.{Deep, depth_of}
+use Rattle.keys.specs.Keys.{Last, Later}
+use Rattle.store.specs.Fit.{Deep}
 use Rattle.model.specs.Pairs.{Pair}
 use Rattle.model.specs.Model as M
 use Rattle.model.specs.Model.{Model, Instance, Live, Arrival, SetUp, Call, set_up, add, no_writers, choose, read_or_take, next_key, Place, gone, held, find, put, live_in, lives, count, in_slot, push, as_read, listed_in, touch, listed, left, key_in, issue_of, state_in, old_of, refusal_of, arrived, slot_of, accept, adding, dying, access, accessing, fine, within, keep_of, keep_fits, is_zero, counts_kept, counts_none, fresh, setting_up, step}
@@ -105,8 +103,8 @@ all-reached l (s ∷ ss) h =
     (bit-one (reached l s.key) (omega (arith, rw (eq-eqb s.key s.key refl) at (h s.key))), all-reached l ss (λ j. omega (arith, h j)))
 
 reached-below : (l : Last) (k j : ℕ) → Later l k → reached l j ≡ true → j < k
-reached-below last.Never k j h e = absurd (true≢false (sym e))
-reached-below (last.Key x) k j h e = omega (arith, leb-true j x e)
+reached-below None k j h e = absurd (true≢false (sym e))
+reached-below (Some x) k j h e = omega (arith, leb-true j x e)
 
 pub count-find : (p : Live → Bool) (n : ℕ) (is : List Instance) → count p (lives_of (find n is)) ≤ count p (lives is)
 unfolding find lives count

@@ -6,7 +6,7 @@ use Rattle.std.proofs.Math.Bool.{true}
 use mathlib.Core.List.{List, [], ◌∷◌, ◌++◌}
 use Rattle.std.proofs.Math.ListN.{length-map}
 use Rattle.model.specs.Pairs.{Pair, bad_from, first_bad}
-use Rattle.model.specs.Model.{Model, is_live, last_total, infos_of, infos_for, fine, Edition, by_the_rust, ranks_at}
+use Rattle.model.specs.Model.{Model, is_live, last_total, infos_of, infos_for, Edition, by_the_rust, ranks_at}
 use Rattle.model.specs.BadLaws.{all_live}
 use Rattle.store.specs.Store.{place_of, inst_at, slot_named, is_held}
 use Rattle.refine.specs.Layout.{inst_of, store_of, table_of}

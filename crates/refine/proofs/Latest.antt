@@ -1,5 +1,5 @@
 -- The latest-keyed live sample stands in the slot that the store calls the latest.
-use Rattle.std.specs.Prelude.{◌≡◌, Bool, true, false, length, get_or, eqb, ltb}
+use Rattle.std.specs.Prelude.{Some, None, ◌≡◌, Bool, true, false, length, get_or, eqb, ltb}
 use Rattle.std.proofs.Math.Path.{refl, sym, ap}
 use Rattle.std.proofs.Common.{◌∙◌, subst, arith, eq-eqb, eqb-true, lt-ltb, ltb-true, ltb-false, leb-true}
 use mathlib.Core.List.{List, [], ◌∷◌, ◌++◌, append_assoc}
@@ -11,8 +11,7 @@ use Rattle.lists.specs.Every.{Every, every_map}
 use Rattle.lists.specs.Count.{bit}
 use Rattle.slots.specs.Bits.{free_at}
 use Rattle.sampleinfo.specs.Samples.{empty_sample, total_of}
-use Rattle.keys.specs.declared.Last.{Last}
-use Rattle.keys.specs.declared.Last.TheVariants as last
+use Rattle.keys.specs.Keys.{Last}
 use Rattle.model.specs.Model.{Model, Live, lives, count, keyed, later, latest, latest_total}
 use Rattle.model.proofs.Counting.{count-append}
 use Rattle.model.proofs.Slots.{reached}
@@ -197,12 +196,12 @@ module _ (m : Model) (g : Good m) where
       sym (look-slot r (entries_of m) u.0 u.1) ∙ ap (λ (y : Live). y.slot) same
 
   newest-is : (l : Last) → m.last ≡ l → newest_of l ss < 256 → newest_of l ss ≡ slot_or_none (latest ss)
-  newest-is last.Never e h = absurd (omega arith)
-  newest-is (last.Key k) e h = go (keyed k ss) refl h
+  newest-is None e h = absurd (omega arith)
+  newest-is (Some k) e h = go (keyed k ss) refl h
     where
       all-up-to : (s : Live) → s.key ≡ k → Every (λ x. x.key ≤ s.key) ss
-      all-up-to s q = every_map (λ x. reached (last.Key k) x.key ≡ true) (λ x. x.key ≤ s.key) ss (λ x p. omega (arith, leb-true x.key k p))
-          (all-reached (last.Key k) ss (λ j. subst (λ (l : Last). count (has_key j) ss ≤ bit (reached l j)) e (g.keys j)))
+      all-up-to s q = every_map (λ x. reached (Some k) x.key ≡ true) (λ x. x.key ≤ s.key) ss (λ x p. omega (arith, leb-true x.key k p))
+          (all-reached (Some k) ss (λ j. subst (λ (l : Last). count (has_key j) ss ≤ bit (reached l j)) e (g.keys j)))
 
       go : (o : Option Live) → keyed k ss ≡ o → slot_or_none o < 256 → slot_or_none o ≡ slot_or_none (latest ss)
       go none q b = absurd (omega arith)

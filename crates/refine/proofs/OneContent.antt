@@ -8,7 +8,7 @@ use Rattle.lists.specs.Every.{Every, every_append, every_map}
 use Rattle.sampleinfo.specs.Samples.{empty_sample}
 use Rattle.sampleinfo.specs.declared.Sample.{Sample}
 use Rattle.sampleinfo.specs.declared.InstanceMetaData.{InstanceMetaData}
-use Rattle.keys.specs.declared.Last.{Last}
+use Rattle.keys.specs.Keys.{Last}
 use Rattle.model.specs.Model.{Model, Instance, Live, Place, gone, held, live_in}
 use Rattle.model.specs.PairLaws.{split}
 use Rattle.model.proofs.Laws.{map-ext}

@@ -1,7 +1,7 @@
 -- One pair taken or read: on the store and on the table.
 use Rattle.std.proofs.Math.Path.{◌≡◌, refl, sym, ap}
 use Rattle.std.proofs.Common.{◌∙◌, zero-add, arith, eq-eqb, ne_eqb, eqb-true}
-use Rattle.std.specs.Prelude.{Bool, ℕ, zero, suc, ◌+◌, ◌≤◌, get_or, ltb}
+use Rattle.std.specs.Prelude.{Some, None, Bool, ℕ, zero, suc, ◌+◌, ◌≤◌, get_or, ltb}
 use Rattle.std.proofs.Math.Bool.{true, false, cond}
 use mathlib.Core.List.{List, [], ◌∷◌, ◌++◌, map, append_assoc}
 use Rattle.std.proofs.Math.Option.{Option, some, none}
@@ -13,8 +13,7 @@ use Rattle.lists.specs.Every.{Every, every_map}
 use Rattle.lists.specs.Count.{bit}
 use Rattle.lists.specs.Blocks.{put_at, map-put, put_same}
 use Rattle.sampleinfo.specs.Samples.{empty_sample, marked_read}
-use Rattle.keys.specs.declared.Last.{Last}
-use Rattle.keys.specs.declared.Last.TheVariants as last
+use Rattle.keys.specs.Keys.{Last}
 use Rattle.model.specs.Pairs.{Pair}
 use Rattle.model.specs.Model.{Model, Instance, Live, Place, gone, held, find, live_in, lives, count, in_slot, keyed, as_read, touch}
 use Rattle.model.proofs.Counting.{count-append}
@@ -29,7 +28,7 @@ use Rattle.refine.specs.Entries.{map-append, found_name, lives-of, insts, entrie
 use Rattle.refine.proofs.FitOf.{in-a-slot}
 use Rattle.refine.proofs.Add.{keyed-here}
 use Rattle.refine.proofs.Unique.{unique}
-use Rattle.refine.proofs.Found.{Placed, at, front, rear, at-below, entries-here, here-placed, entry-slots, keyed-key}
+use Rattle.refine.proofs.Found.{Placed, front, rear, at-below, entries-here, here-placed, entry-slots, keyed-key}
 use Rattle.refine.proofs.Named.{insts-of, inst-here, named-placed, key-once, lives-parts}
 use Rattle.refine.proofs.Touch.{touched_in, touched_by, touch-own, touched-one}
 
@@ -119,8 +118,8 @@ either false = refl
 -- "newest is the slot of the last accepted sample while that is live"
 newest-taken : (l : Last) (a b : List Live) (s : Live) → count (in_slot s.slot) (a ++ s ∷ b) ≤ 1 → ((k : ℕ) → count (has_key k) (a ++ s ∷ b) ≤ 1)
     → newest_of l (a ++ b) ≡ cond (eqb (newest_of l (a ++ s ∷ b)) s.slot) 256 (newest_of l (a ++ s ∷ b))
-newest-taken last.Never a b s slots keys = either (eqb 256 s.slot)
-newest-taken (last.Key k) a b s slots keys = split (eqb s.key k)
+newest-taken None a b s slots keys = either (eqb 256 s.slot)
+newest-taken (Some k) a b s slots keys = split (eqb s.key k)
     (λ q. let z : count (has_key k) (a ++ b) ≡ 0 = omega (arith, count-with (has_key k) a b s, ap bit q, keys k) in
     rw (keyed-absent k (a ++ b) z, keyed-here k a b s (omega (arith, count-append (has_key k) a b)) (eqb-true s.key k q), eq-eqb s.slot s.slot refl))
     (λ q. rw (keyed-without k a b s (eqb-false s.key k q)) (go (keyed k (a ++ b)) refl))
@@ -133,8 +132,8 @@ newest-taken (last.Key k) a b s slots keys = split (eqb s.key k)
         (λ q. rw q)
 
 newest-read : (l : Last) (a b : List Live) (s : Live) → newest_of l (a ++ as_read s ∷ b) ≡ newest_of l (a ++ s ∷ b)
-newest-read last.Never a b s = refl
-newest-read (last.Key k) a b s = keyed-read k a b s
+newest-read None a b s = refl
+newest-read (Some k) a b s = keyed-read k a b s
 
 -- ---- tables that do not see what changes
 

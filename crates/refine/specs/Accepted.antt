@@ -10,7 +10,6 @@ use Rattle.std.proofs.lemmas.List.{length-replicate}
 use Rattle.lists.specs.Every.{Every}
 use Rattle.keys.specs.Keys.{Later}
 use Rattle.keys.specs.KeyLaws.{key-later}
-use Rattle.keys.specs.declared.Issued.TheVariants as issued
 use Rattle.store.specs.Fit.{Deep}
 use Rattle.model.specs.Model.{Model, Instance, Live, Arrival, Place, held, find, put, is_new, unkept, no_key, key_in, issue_of, lives, live_of, window, old_of, refusal_of, arrived, roomy, slot_of, count, in_slot}
 use Rattle.model.proofs.Slots.{length_push, length-put, lowest-below, lowest-free}

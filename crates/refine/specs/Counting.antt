@@ -4,7 +4,7 @@ use Rattle.std.proofs.Math.Option.{Option, some, none}
 use Rattle.std.proofs.Common.{arith, eqb-true, ltb-false, le-ltb}
 use Rattle.std.proofs.lemmas.Bool.{eqb-false}
 use Rattle.lists.specs.Count.{bit}
-use Rattle.model.specs.Model.{Model, Live, Arrival, Place, gone, find, put, live_in, lives, count, in_slot, lowest_from, push, old_of, arrived, roomy}
+use Rattle.model.specs.Model.{Model, Live, Arrival, Place, gone, live_in, lives, count, in_slot, lowest_from, push, old_of, arrived, roomy}
 use Rattle.model.proofs.Slots.{count-below, below, lowest-free}
 use Rattle.model.proofs.Counting.{old-count, count-append, count-put}
 use Rattle.model.specs.PairLaws.{split}

@@ -5,7 +5,6 @@ use Rattle.lists.specs.Every.{Every}
 use Rattle.lists.specs.Count.{bit}
 use Rattle.sampleinfo.specs.Counts.{total}
 use Rattle.sampleinfo.specs.Lifecycle.{counts_of}
-use Rattle.keys.specs.declared.Last.TheVariants as last
 use Rattle.model.specs.Model.{Live, Instance, Model, live_in, lives, count, in_slot}
 use Rattle.model.proofs.Slots.{reached}
 use Rattle.model.specs.Demand3.{times_held, has_key}

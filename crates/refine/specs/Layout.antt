@@ -1,10 +1,9 @@
 -- The model's cache as it lies in memory: its store of numbers, and the table of its sample records. Both are functions of the model.
-use Rattle.std.specs.Prelude.{List, [], ◌∷◌, ◌++◌, map, cond, ℕ, zero, suc, eqb}
+use Rattle.std.specs.Prelude.{Some, None, List, [], ◌∷◌, ◌++◌, map, cond, ℕ, zero, suc, eqb}
 use Rattle.std.proofs.Math.Option.{Option, some, none}
 use Rattle.sampleinfo.specs.Samples.{empty_sample}
 use Rattle.sampleinfo.specs.declared.Sample.{Sample}
-use Rattle.keys.specs.declared.Last.{Last}
-use Rattle.keys.specs.declared.Last.TheVariants as last
+use Rattle.keys.specs.Keys.{Last}
 use Rattle.model.specs.Model.{Live, Place, gone, held, Instance, Model, live_in, lives, keyed}
 use Rattle.store.specs.Store.{Inst, Store}
 
@@ -79,8 +78,8 @@ slot_or_none (some s) = s.slot
 
 -- the slot of the live sample under the last key issued, 256 where there is none
 abbrev pub newest_of : Last → List Live → ℕ
-newest_of last.Never ss = 256
-newest_of (last.Key k) ss = slot_or_none (keyed k ss)
+newest_of None ss = 256
+newest_of (Some k) ss = slot_or_none (keyed k ss)
 
 -- ---- the whole
 

@@ -1,211 +1,123 @@
 // The values of a session: what it holds, a call's outcome as the reply to a record, and what is refused before the cache is asked.
 #![tactic(auto)]
 
-ghost use Rattle.std.specs.Prelude.{◌≡◌, true, ◌<◌, ◌^◌};
-ghost use Rattle.replies.specs.Steps.{said, session_of, declined_with, is_ok, reply_said, set_up_done, evicted_said, add_said, add_done, choose_said, list_said, list_done, at_most, next_said, is_set_up, same, refusal_by};
+ghost use Rattle.std.specs.Prelude.{◌≡◌, min, length, take, is_some};
+ghost use Rattle.replies.specs.Steps.{session_after, reply_in, set_up_done, add_done, event_done, choose_done, list_done, is_set_up, admitted_by};
 
 use answers::Reply;
-use printing::Maybe;
+use datasample_access::Listed;
+use datasample_cache::Added;
+use index::Cache;
+use records::Request;
+use refusals::Refusal;
 
-// What a session holds beside the lent memory: the header, and whether a set-up was accepted.
+// What a session holds beside the lent memory: the header of the cache that was set up, if one was.
 #[derive(Clone, Copy)]
 pub struct Session {
-    pub head: index::Cache,
-    pub ready: bool,
+    pub head: Option<Cache>,
 }
 
+// What a record that is not refused comes to. A refused one leaves the session as it is.
 #[derive(Clone, Copy)]
 pub struct Replied {
-    pub session: Session,
+    pub head: Cache,
     pub reply: Reply,
 }
 
-pub fn declined(s: Session, n: u64) -> Replied
-    ensures { result ≡ declined_with s n }
-{
-    Replied {
-        session: s,
-        reply: Reply::Refused(n),
+impl Session {
+    pub fn after(self, r: Result<Replied, Refusal>) -> Session
+        ensures { result ≡ session_after self r }
+    {
+        match r {
+            Ok(x) => Session { head: Some(x.head) },
+            Err(_) => self,
+        }
     }
 }
 
-// A cache that was set up, and its reply.
-fn ready(head: index::Cache, reply: Reply) -> Replied
-    ensures { result ≡ said (session_of head true) reply }
+pub fn reply_in(r: Result<Replied, Refusal>) -> Result<Reply, Refusal>
+    ensures { result ≡ reply_in r }
 {
-    Replied {
-        session: Session {
-            head: head,
-            ready: true,
-        },
-        reply: reply,
-    }
+    r.map(|x| x.reply)
 }
 
-pub fn reply_of(r: datasample_cache::Reply) -> Reply
-    ensures { result ≡ reply_said r }
-{
-    match r {
-        datasample_cache::Reply::Ok => Reply::Ok,
-        datasample_cache::Reply::Refused(n) => Reply::Refused(n),
-    }
-}
+// ---- what each call comes to
 
-fn is_ok(r: datasample_cache::Reply) -> bool
-    ensures { result ≡ is_ok r }
-{
-    match r {
-        datasample_cache::Reply::Ok => true,
-        datasample_cache::Reply::Refused(_) => false,
-    }
-}
-
-pub fn set_up_done(r: datasample_cache::SetUpOutcome) -> Replied
+pub fn set_up_done(r: Result<Cache, Refusal>) -> Result<Replied, Refusal>
     ensures { result ≡ set_up_done r }
 {
-    let head = r.head;
-    let answer = r.answer;
-    Replied {
-        session: Session {
-            head: head,
-            ready: is_ok(answer),
-        },
-        reply: reply_of(answer),
-    }
+    r.map(|head| Replied {
+        head,
+        reply: Reply::Ok,
+    })
 }
 
-// The handle, and that its type bounds it.
-pub fn bounded(handle: u32) -> u32
-    ensures { (result ≡ handle) × (handle < 2 ^ 32) }
-{
-    handle
-}
-
-fn evicted(e: datasample_cache::Evicted) -> Maybe
-    ensures { result ≡ evicted_said e }
-{
-    match e {
-        datasample_cache::Evicted::Handle(h) => Maybe::Number(h as u64),
-        datasample_cache::Evicted::Nothing => Maybe::None,
-    }
-}
-
-fn add_reply(a: datasample_cache::Added) -> Reply
-    ensures { result ≡ add_said a }
-{
-    match a {
-        datasample_cache::Added::Refused(n) => Reply::Refused(n),
-        datasample_cache::Added::Added {
-            key,
-            slot,
-            evicted: e,
-        } => Reply::Added {
-            key: key,
-            slot: slot as u64,
-            evicted: evicted(e),
-        },
-    }
-}
-
-pub fn add_done(r: datasample_cache::AddOutcome) -> Replied
+pub fn add_done(r: Result<Added, Refusal>) -> Result<Replied, Refusal>
     ensures { result ≡ add_done r }
 {
-    let head = r.head;
-    let answer = r.answer;
-    ready(head, add_reply(answer))
+    r.map(|a| Replied {
+        head: a.head,
+        reply: Reply::Added {
+            key: a.key,
+            slot: a.slot as u64,
+            evicted: a.evicted.map(u64::from),
+        },
+    })
 }
 
-fn choose_reply(r: select::Chosen) -> Reply
-    ensures { result ≡ choose_said r }
+pub fn event_done(head: Cache, r: Result<(), Refusal>) -> Result<Replied, Refusal>
+    ensures { result ≡ event_done head r }
 {
-    match r {
-        select::Chosen::Selected(n) => Reply::Selected(n),
-        select::Chosen::Refused(n) => Reply::Refused(n),
-    }
+    r.map(|_| Replied {
+        head,
+        reply: Reply::Ok,
+    })
 }
 
 // Choosing changes nothing of the cache.
-pub fn choose_done(s: Session, r: select::Chosen) -> Replied
-    ensures { result ≡ said s (choose_said r) }
+pub fn choose_done(head: Cache, r: Result<usize, Refusal>) -> Result<Replied, Refusal>
+    ensures { result ≡ choose_done head r }
 {
-    Replied {
-        session: s,
-        reply: choose_reply(r),
-    }
+    r.map(|n| Replied {
+        head,
+        reply: Reply::Selected(n),
+    })
 }
 
-fn list_reply(r: datasample_access::Listed) -> Reply
-    ensures { result ≡ list_said r }
-{
-    match r {
-        datasample_access::Listed::Infos(n) => Reply::Infos(n),
-        datasample_access::Listed::Refused(n) => Reply::Refused(n),
-    }
-}
-
-pub fn list_done(r: datasample_access::ListOutcome) -> Replied
+pub fn list_done(r: Result<Listed, Refusal>) -> Result<Replied, Refusal>
     ensures { result ≡ list_done r }
 {
-    let head = r.head;
-    let answer = r.answer;
-    ready(head, list_reply(answer))
+    r.map(|x| Replied {
+        head: x.head,
+        reply: Reply::Infos(x.infos),
+    })
 }
 
-// As many words as there are: no record has more than the lent list.
-pub fn at_most(n: usize, most: usize) -> usize
-    ensures { result ≡ at_most n most }
+// The words that a list record asked for: no record has more than the lent list.
+pub fn asked(list: &[u64], n: usize) -> &[u64]
+    ensures { result.now ≡ take (min n (length list.now)) list.now }
 {
-    if n < most {
-        return n;
-    }
-    most
+    &list[..n.min(list.len())]
 }
 
-pub fn next_reply(r: lookup::Next) -> Reply
-    ensures { result ≡ next_said r }
+// ---- before the cache is asked
+
+fn is_set_up(q: Option<Request>) -> bool
+    ensures { result ≡ is_set_up q }
 {
-    match r {
-        lookup::Next::Key(k) => Reply::Next(Maybe::Number(k)),
-        lookup::Next::Nothing => Reply::Next(Maybe::None),
-    }
+    matches!(q, Some(Request::SetUp(_)))
 }
 
-fn is_set_up(op: records::Op) -> bool
-    ensures { result ≡ is_set_up op }
+// The request of a record that is in its place. Refusal 1, then 10: another record before an accepted set-up, or a set-up after one.
+#[tactic(auto, unfolding(crate::specs::Steps::admitted_by))]
+pub fn admitted(s: Session, q: Option<Request>) -> Result<Request, Refusal>
+    ensures { result ≡ admitted_by (is_some s.head) q }
 {
-    match op {
-        records::Op::SetUp(_) => true,
-        records::Op::Add(_) => false,
-        records::Op::NoWriters(_) => false,
-        records::Op::Choose(_) => false,
-        records::Op::ChooseWithin(_, _) => false,
-        records::Op::Read(_) => false,
-        records::Op::Take(_) => false,
-        records::Op::NextKey(_) => false,
-        records::Op::Malformed => false,
+    if Request::is_bad(q) {
+        return Err(Refusal::Malformed);
     }
-}
-
-// A set-up where there was one, or another record where there was none.
-fn misplaced(set_up: bool, ready: bool) -> bool
-    ensures { result ≡ same set_up ready }
-{
-    if set_up {
-        return ready;
+    if is_set_up(q) == s.head.is_some() {
+        return Err(Refusal::OutOfTurn);
     }
-    !ready
-}
-
-// Refusal 1, then 10: another record before an accepted set-up, or a set-up after one. 0 where the cache is asked.
-pub fn refusal(s: Session, q: records::Request) -> u64
-    ensures { result ≡ refusal_by s.ready q }
-{
-    if q.is_bad() {
-        return 1;
-    }
-    let op = q.op;
-    if misplaced(is_set_up(op), s.ready) {
-        return 10;
-    }
-    0
+    q.ok_or(Refusal::Malformed)
 }

@@ -1,5 +1,6 @@
 -- An accepted add on the ground: the same key, the same handle out, and the states stay alike.
-use Rattle.std.proofs.Common.{◌≡◌, ℕ, ◌+◌, ◌%◌, ◌<◌, ◌≤◌, min, true, false, cond, eqb, ltb, ◌⊎◌, List, [], ◌∷◌, ◌++◌, length, sym, refl, ap, ◌∙◌, subst, inl, inr, true≢false, arith, ltb-false, ltb-true, eqb-true, le-leb}
+use Rattle.std.specs.Prelude.{Some, None}
+use Rattle.std.proofs.Common.{◌≡◌, ℕ, ◌+◌, ◌%◌, ◌<◌, ◌≤◌, min, false, cond, eqb, ltb, ◌⊎◌, List, [], ◌∷◌, ◌++◌, length, sym, refl, ap, ◌∙◌, subst, inl, inr, true≢false, arith, ltb-false, ltb-true, eqb-true, le-leb}
 use mathlib.Core.Option.{Option, some, none}
 use borrow.Author.Tests.{lt-leb}
 use Rattle.sampleinfo.specs.States.{made_by}
@@ -10,10 +11,8 @@ use Rattle.sampleinfo.specs.declared.InstanceState.{InstanceState}
 use Rattle.sampleinfo.specs.declared.InstanceState.TheVariants.{Alive, NotAliveDisposed, NotAliveNoWriters}
 use Rattle.sampleinfo.specs.declared.Body.{Body}
 use Rattle.sampleinfo.specs.declared.Body.TheVariants.{Value, Dispose}
-use Rattle.keys.specs.Keys.{key_of, Later}
+use Rattle.keys.specs.Keys.{Last, key_of, Later}
 use Rattle.keys.specs.KeyLaws.{key-is-time}
-use Rattle.keys.specs.declared.Last.{Last}
-use Rattle.keys.specs.declared.Last.TheVariants as last
 use Rattle.model.specs.Model.{Model, Live, Instance, Arrival, Place, held, find, put, least, next_name, body_in, state_in, no_key, key_in, issue_of, or_fresh, old_of, refusal_of, arrived, slot_of, live_of, accept, push, pushed_out}
 use Rattle.model.specs.Story.{Every, AtMost, untaken, entry_keys, last_key, lives_of, live_at}
 use Rattle.model.specs.Demand3.{In}
@@ -77,8 +76,8 @@ unfolding receive_timestamp
 key-by-time time none h = refl
 key-by-time time (some e) h = rw (lt-leb time e.at h)
 
-key-by-last : (l time : ℕ) (o : Option (Entry SampleWithMetaData)) → Reaches l o → OnLast (λ k. k ≤ l) o → no_key (key_of (last.Key l) time) ≡ false
-    → receive_timestamp o time ≡ key_in (key_of (last.Key l) time)
+key-by-last : (l time : ℕ) (o : Option (Entry SampleWithMetaData)) → Reaches l o → OnLast (λ k. k ≤ l) o → no_key (key_of (Some l) time) ≡ false
+    → receive_timestamp o time ≡ key_in (key_of (Some l) time)
 unfolding receive_timestamp key_of
 key-by-last l time none h q e = absurd h
 key-by-last l time (some f) h q e = rw (same f.at l h q) (split (ltb l time)
@@ -95,7 +94,7 @@ key-by-last l time (some f) h q e = rw (same f.at l h q) (split (ltb l time)
 
 later_last : (o : Last) (ks : List ℕ) (t : ℕ) → Later o t → Every (λ k. k < t) ks → Later (last_key o ks) t
 later_last o [] t p h = p
-later_last o (k ∷ ks) t p h = later_last (last.Key k) ks t h.0 h.1
+later_last o (k ∷ ks) t p h = later_last (Some k) ks t h.0 h.1
 
 module _ (m : Model) (c : DataSampleCache) (log : List Kept) (h : Alike m c log) where
   in-mine : (n : ℕ) (s : Live) → In s (live_at n m) → In s (untaken (mine n log))
@@ -107,18 +106,18 @@ module _ (m : Model) (c : DataSampleCache) (log : List Kept) (h : Alike m c log)
       go (some i) (some d) t q = subst (λ l. In s l) (live-mine m.keep (mine n log) i t.places t.few) q
 
   -- "each add's time is later than every key issued so far, or the last key issued is still live"
-  pub same_key : (ks : List ℕ) (time : ℕ) → m.last ≡ last_key last.Never ks → Every (λ k. k < time) ks ⊎ LastLives m ks → no_key (key_of m.last time) ≡ false
+  pub same_key : (ks : List ℕ) (time : ℕ) → m.last ≡ last_key None ks → Every (λ k. k < time) ks ⊎ LastLives m ks → no_key (key_of m.last time) ≡ false
       → receive_timestamp (last_entry (samples log)) time ≡ key_in (key_of m.last time)
   same_key ks time e (inl q) g = key-by-time time (last_entry (samples log)) (on-last (λ k. k < time) (samples log) (every-samples (λ k. k < time) log (every-imp (λ k t. at-most-below m.last (key_at k) time late t) log h.top)))
       ∙ ap key_in (sym (key-is-time m.last time late))
     where
       late : Later m.last time
-      late = rw e (later_last last.Never ks time tt q)
+      late = rw e (later_last None ks time tt q)
   same_key ks time e (inr (l, n, f, p)) g = key-by-last l time (last_entry (samples log)) (subst (λ j. Reaches j (last_entry (samples log))) p.1.1 (reaches n p.0 log h.rises (in-mine n p.0 p.1.0)))
       (on-last (λ k. k ≤ l) (samples log) (every-samples (λ k. k ≤ l) log (every-imp (λ k t. subst (λ o. AtMost o (key_at k)) is t) log h.top))) (subst (λ o. no_key (key_of o time) ≡ false) is g)
       ∙ ap (λ (o : Last). key_in (key_of o time)) (sym is)
     where
-      is : m.last ≡ last.Key l
+      is : m.last ≡ Some l
       is = e ∙ f
 
 -- ---- the lifecycle
@@ -326,6 +325,6 @@ module _ (m : Model) (c : DataSampleCache) (log : List Kept) (h : Alike m c log)
     twins = twins-now;
     nexts = λ n. above-insert n a.name after c.instance_map ∙ ap (λ (o : Option ℕ). lowest n o a.name) (h.nexts n) ∙ sym (next-put n (arrived m.keep was a (held kept.told.sample)) m.instances ∙ unfold arrived in refl);
     rises = rising-on now kept (rising-trim m.keep a.name log h.rises) (every-trim (λ j. key_at j < key) m.keep a.name log below);
-    top = every_append (λ k. AtMost (last.Key key) (key_at k)) now (kept ∷ []) (every-trim (λ k. AtMost (last.Key key) (key_at k)) m.keep a.name log
+    top = every_append (λ k. AtMost (Some key) (key_at k)) now (kept ∷ []) (every-trim (λ k. AtMost (Some key) (key_at k)) m.keep a.name log
         (every-imp (λ k t. at-most-later m.last key (key_at k) (key-new m a accepted) t) log h.top)) (omega arith, tt);
   }

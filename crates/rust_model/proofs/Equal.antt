@@ -1,9 +1,9 @@
 -- Equal to the Rust, on every sequence of calls on the common ground.
+use Rattle.std.specs.Prelude.{None}
 use Rattle.std.proofs.Common.{◌≡◌, ℕ, ◌*◌, ◌<◌, ◌≤◌, Bool, true, false, cond, ◌&&◌, ◌||◌, eqb, leb, List, [], ◌∷◌, ◌++◌, map, length, ℤ, pos, negsuc, sym, refl, ap, ◌∙◌, subst, true≢false, arith, eqb-true, leb-true}
 use mathlib.Core.Option.{Option, some, none}
 use Rattle.readcondition.specs.Masks.{is_valid}
 use Rattle.readcondition.specs.declared.ReadCondition.{ReadCondition}
-use Rattle.keys.specs.declared.Last.TheVariants as last
 use Rattle.model.specs.Pairs.{Pair}
 use Rattle.model.specs.Model.{Model, Instance, Arrival, Call, set_up, add, no_writers, choose, read_or_take, next_key, selected, counts_kept, counts_none, keep_fits, is_zero, depth_of, within, keep_of, fresh, find, next_name, refusal_of, accept, adding, scope, choices, choosing, fine, infos_for, access, accessing, step, answers}
 use Rattle.model.specs.Story.{untaken, lives_of, live_at, run, trace, accepted, all_keys, last_key}
@@ -54,7 +54,7 @@ record Turns (m : Model) (c : DataSampleCache) (x : Call) : Type 0 where
   alike : Alike (step m x).then done.cache log
 
 module _ (m : Model) (c : DataSampleCache) (log : List Kept) (h : Alike m c log) where
-  turns-add : (ks : List ℕ) → m.last ≡ last_key last.Never ks → (a : Arrival) → Stands m ks (add a) → accepted (step m (add a)).answer ≡ true → Turns m c (add a)
+  turns-add : (ks : List ℕ) → m.last ≡ last_key None ks → (a : Arrival) → Stands m ks (add a) → accepted (step m (add a)).answer ≡ true → Turns m c (add a)
   unfolding step adding
   turns-add ks l a s e = split (eqb (refusal_of m a) 0)
       (λ q. on q (eqb-true (refusal_of m a) 0 q))
@@ -108,7 +108,7 @@ module _ (m : Model) (c : DataSampleCache) (log : List Kept) (h : Alike m c log)
           alike = rw (a, b) (by-keys m c log h once t ps a).stays-alike;
         }
 
-    turns : (ks : List ℕ) → m.last ≡ last_key last.Never ks → (x : Call) → Stands m ks x → accepted (step m x).answer ≡ true → Turns m c x
+    turns : (ks : List ℕ) → m.last ≡ last_key None ks → (x : Call) → Stands m ks x → accepted (step m x).answer ≡ true → Turns m c x
     unfolding step
     turns ks l (set_up u) s e = absurd s
     turns ks l (add a) s e = turns-add ks l a s e

@@ -1,5 +1,5 @@
 -- Making room: a new entry at the log's end, and, where its instance has d entries already, the first of those leaves.
-use Rattle.std.proofs.Common.{◌≡◌, ℕ, zero, suc, ◌+◌, ◌-◌, ◌<◌, ◌≤◌, true, false, cond, eqb, ltb, List, [], ◌∷◌, ◌++◌, map, length, take, drop, replicate, sym, refl, ap, ◌∙◌, append-nil, arith, length-append, ltb-false, ltb-true, eqb-true}
+use Rattle.std.proofs.Common.{◌≡◌, ℕ, zero, suc, ◌-◌, ◌<◌, ◌≤◌, true, false, cond, eqb, ltb, List, [], ◌∷◌, ◌++◌, map, length, take, drop, replicate, sym, refl, ap, ◌∙◌, append-nil, arith, length-append, ltb-false, ltb-true, eqb-true}
 use mathlib.Core.Option.{Option, some, none}
 use lib.ListN.{length-map}
 use Rattle.model.specs.Model.{Place, gone, held, push, pushed_out}

@@ -1,5 +1,5 @@
 -- Laws of the log.
-use Rattle.std.proofs.Common.{◌≡◌, ℕ, ◌+◌, ◌-◌, ◌<◌, ◌≤◌, true, false, cond, eqb, List, [], ◌∷◌, ◌++◌, length, drop, sym, refl, subst, ap, ◌∙◌, arith, eqb-true}
+use Rattle.std.proofs.Common.{◌≡◌, ℕ, ◌-◌, ◌<◌, ◌≤◌, true, false, cond, eqb, List, [], ◌∷◌, ◌++◌, length, drop, sym, refl, subst, ap, ◌∙◌, arith, eqb-true}
 use mathlib.Core.Option.{Option, some, none}
 use Rattle.model.specs.Model.{Instance, live_in}
 use Rattle.model.specs.Story.{Entry as Told, Every, untaken, entry_keys, last_by}

@@ -1,5 +1,6 @@
 -- The topic cache is equal to the Rust's on its ground. The two states are alike where the Rust's map has the model's entries under their keys, which
 -- rise up to the last one issued, and the index finds exactly the pairs of writer and sequence number that are held, each of them once.
+use Rattle.std.specs.Prelude.{Some, None}
 use Rattle.std.proofs.Common.{◌≡◌, ℕ, zero, suc, ◌+◌, ◌-◌, ◌%◌, ◌<◌, ◌≤◌, min, max, Bool, true, false, not, ◌&&◌, ◌||◌, eqb, ltb, leb, ◌⊎◌, List, [], ◌∷◌, ◌++◌, map, length, take, drop, sym, refl, ap, ◌∙◌, subst, inl, inr, true≢false, arith, ltb-false, ltb-true, le-ltb, lt-ltb, eq-eqb, eqb-true, leb-false, leb-true}
 use mathlib.Core.Bool.{and-true, and-false, or-true, or-false}
 use mathlib.Core.Option.{Option, some, none}
@@ -7,12 +8,8 @@ use native.Mathlib.Nat.{sub-zero}
 use lib.ListN.{length-map}
 use lib.Seq.{take-nil, drop-nil}
 use borrow.Author.Tests.{lt-leb}
-use Rattle.keys.specs.Keys.{key_of}
+use Rattle.keys.specs.Keys.{Last, Issued, key_of}
 use Rattle.keys.specs.KeyLaws.{Ruled, on-time, one_more, spent, ruled}
-use Rattle.keys.specs.declared.Last.{Last}
-use Rattle.keys.specs.declared.Last.TheVariants as last
-use Rattle.keys.specs.declared.Issued.{Issued}
-use Rattle.keys.specs.declared.Issued.TheVariants as issued
 use Rattle.model.specs.Topic.{Limits, defaults}
 use Rattle.model.specs.Topic.{Entry, Topic, Change, places, in_bounds, depth_fits, limits_fit, raised_to, deeper, must_remove, may_remove, may_for, count_below, removal, removed_before, collects, collected_for, same_bytes, holds_pair, entry_of, Call, update, add, remove_before, range, Step, issuing, adding, fresh, within, step}
 use Rattle.sampleinfo.specs.Formed.{seq_fits}
@@ -263,7 +260,7 @@ record Alike (t : Topic) (c : TopicCache) : Type 0 where
   shallow : c.min_keep_samples ≡ history_of t.limits.depth
   most : c.max_keep_samples ≡ t.limits.most
   holds : c.changes ≡ map held_as t.entries
-  last_one : t.last ≡ last.Key c.last_added_instant
+  last_one : t.last ≡ Some c.last_added_instant
   index : (w : List ℕ) (s : ℕ) → indexes w s c.sequence_numbers ≡ holds_pair w s t.entries
   rises : Rising t.entries
   once : Once t.entries
@@ -315,7 +312,7 @@ module _ (t : Topic) (c : TopicCache) (h : Alike t c) (before : ℕ) where
   }
 
 -- ---- adding
-key-same : (l time k : ℕ) (o : Issued) → Ruled l time o → o ≡ issued.Key k → (key_for time l ≡ k) × (l < k)
+key-same : (l time k : ℕ) (o : Issued) → Ruled l time o → o ≡ Some k → (key_for time l ≡ k) × (l < k)
 key-same l time k o (on-time h) e = let p : time ≡ k = cc in (rw (lt-ltb l time h) p, omega arith)
 key-same l time k o (one_more h q) e = let p : l + 1 ≡ k = cc in (rw (le-ltb l time h) (wraps ∙ p), omega arith)
   where
@@ -340,7 +337,7 @@ module _ (was now : Topic) (c : TopicCache) (h : Alike now c) (x : Change) where
   abbrev number : ℕ
   number = c.last_added_instant
 
-  stores : (k : ℕ) → key_for x.time number ≡ k → number < k → holds_pair x.writer x.seq now.entries ≡ false → Adds (issuing was now x (issued.Key k)) (Rust.adding c (change_of x) (key_for x.time number))
+  stores : (k : ℕ) → key_for x.time number ≡ k → number < k → holds_pair x.writer x.seq now.entries ≡ false → Adds (issuing was now x (Some k)) (Rust.adding c (change_of x) (key_for x.time number))
   stores k e l n = rw e (record {
     told = refl;
     alike = record {
@@ -372,11 +369,11 @@ module _ (was now : Topic) (c : TopicCache) (h : Alike now c) (x : Change) where
           ∙ sym (holds-append w s now.entries (entry_of x k ∷ []) ∙ ap (λ (b : Bool). holds_pair w s now.entries || b) (holds-one w s (entry_of x k)))
 
   issues : (o : Issued) → key_of now.last x.time ≡ o → holds_pair x.writer x.seq now.entries ≡ false → accepted (issuing was now x o).answer ≡ true → Adds (issuing was now x o) (Rust.adding c (change_of x) (key_for x.time number))
-  issues issued.Refused q n e = absurd (true≢false (sym e))
-  issues (issued.Key k) q n e = stores k r.0 r.1 n
+  issues None q n e = absurd (true≢false (sym e))
+  issues (Some k) q n e = stores k r.0 r.1 n
     where
       r : (key_for x.time number ≡ k) × (number < k)
-      r = key-same number x.time k (key_of (last.Key number) x.time) (ruled number x.time) (ap (λ (o : Last). key_of o x.time) (sym h.last_one) ∙ q)
+      r = key-same number x.time k (key_of (Some number) x.time) (ruled number x.time) (ap (λ (o : Last). key_of o x.time) (sym h.last_one) ∙ q)
 
   adds : accepted (adding was now x).answer ≡ true → Adds (adding was now x) (Rust.adding_to c x.time (change_of x))
   adds e = go (find_by_sn x.writer x.seq c.sequence_numbers) refl

@@ -1,13 +1,12 @@
 -- The common ground with the Rust: which calls in a row are compared. Document 01, "Common ground with the Rust".
-use Rattle.std.specs.Prelude.{◌≡◌, ℕ, ◌<◌, true, ◌⊎◌, List, [], ◌∷◌, ◌++◌}
-use Rattle.keys.specs.declared.Last.TheVariants as last
+use Rattle.std.specs.Prelude.{Some, None, ◌≡◌, ℕ, ◌<◌, true, ◌⊎◌, List, [], ◌∷◌, ◌++◌}
 use Rattle.model.specs.Model.{Model, Call, set_up, add, no_writers, choose, read_or_take, next_key, step}
 use Rattle.model.specs.Story.{Every, run, trace, accepted, all_keys, last_key}
 use Rattle.model.specs.Demand3.{LivePair}
 
 -- "the last key issued is still live": ks are the keys issued so far
 abbrev pub LastLives : Model → List ℕ → Type 0
-LastLives m ks = (k : ℕ) × (n : ℕ) × (last_key last.Never ks ≡ last.Key k) × LivePair m (record { key = k; name = n })
+LastLives m ks = (k : ℕ) × (n : ℕ) × (last_key None ks ≡ Some k) × LivePair m (record { key = k; name = n })
 
 -- "without no-writers events, where each add's time is later than every key issued so far, or the last key issued is still live";
 -- set-up once, at the start

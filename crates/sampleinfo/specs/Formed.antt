@@ -1,9 +1,7 @@
 -- What refuses an add with 1 before anything else is asked: "kind not 1 or 2, sequence number out of range".
-use Rattle.std.specs.Prelude.{Bool, ◌&&◌, ◌||◌, cond, ℕ, ◌^◌, leb, ltb, eqb}
+use Rattle.std.specs.Prelude.{Bool, ◌&&◌, ◌||◌, cond, ℕ, ◌^◌, leb, ltb, eqb, Option, Some, None}
 use Rattle.sampleinfo.specs.declared.Body.{Body}
 use Rattle.sampleinfo.specs.declared.Body.TheVariants.{Value, Dispose}
-use Rattle.sampleinfo.specs.declared.BodyMade.{BodyMade}
-use Rattle.sampleinfo.specs.declared.BodyMade.TheVariants as made
 
 -- "sequence number 1 to 2^63-1", in the cache and in the topic cache
 abbrev pub seq_fits : ℕ → Bool
@@ -20,5 +18,5 @@ formed kind seq = kind_fits kind && seq_fits seq
 abbrev pub body_for : ℕ → ℕ → Body
 body_for kind handle = cond (eqb kind 2) (Dispose handle) (Value handle)
 
-abbrev pub arrived_body : ℕ → ℕ → ℕ → BodyMade
-arrived_body kind handle seq = cond (formed kind seq) (made.Body (body_for kind handle)) made.Refused
+abbrev pub arrived_body : ℕ → ℕ → ℕ → Option Body
+arrived_body kind handle seq = cond (formed kind seq) (Some (body_for kind handle)) None

@@ -1,12 +1,10 @@
 -- The lifecycle of an instance: DDS 1.4, 2.2.2.5.1.3 (instance_state) and 2.2.2.5.1.5 (generation counts), with document 01's limit and no-writers event.
-use Rattle.std.specs.Prelude.{Bool, true, false, ◌&&◌, cond, ℕ, leb}
+use Rattle.std.specs.Prelude.{Bool, true, false, ◌&&◌, cond, ℕ, leb, Option, Some, None}
 use Rattle.sampleinfo.specs.Counts.{zero, total, disposed_plus, no_writers_plus, never}
 use Rattle.sampleinfo.specs.declared.InstanceState.{InstanceState}
 use Rattle.sampleinfo.specs.declared.InstanceState.TheVariants.{Alive, NotAliveDisposed, NotAliveNoWriters}
 use Rattle.sampleinfo.specs.declared.NotAliveGenerationCounts.{NotAliveGenerationCounts}
 use Rattle.sampleinfo.specs.declared.InstanceMetaData.{InstanceMetaData}
-use Rattle.sampleinfo.specs.declared.Stepped.{Stepped}
-use Rattle.sampleinfo.specs.declared.Stepped.TheVariants as stepped
 
 -- an instance record: its state, its latest counts, what was last accessed
 abbrev pub meta : InstanceState → NotAliveGenerationCounts → ℕ → InstanceMetaData
@@ -58,8 +56,8 @@ is_last i new = is_reborn (state_of i) new && leb 2147483647 (total (counts_of i
 abbrev pub becomes : InstanceMetaData → InstanceState → InstanceMetaData
 becomes i new = with_state i new (counts_after (state_of i) new (counts_of i))
 
-unfoldable pub lifecycle_of : InstanceMetaData → InstanceState → Stepped
-lifecycle_of i new = cond (is_last i new) stepped.Refused (stepped.Now (becomes i new))
+unfoldable pub lifecycle_of : InstanceMetaData → InstanceState → Option InstanceMetaData
+lifecycle_of i new = cond (is_last i new) None (Some (becomes i new))
 
 -- what the lent record is afterwards: a refused step changes nothing
 unfoldable pub stepped_of : InstanceMetaData → InstanceState → InstanceMetaData
@@ -79,6 +77,6 @@ abbrev pub lifecycle_number : InstanceMetaData → InstanceState → ℕ
 lifecycle_number i new = cond (is_last i new) 7 0
 
 -- document 01's number for a refused step, 0 for one that is not
-abbrev pub stepped_number : Stepped → ℕ
-stepped_number (stepped.Now i) = 0
-stepped_number stepped.Refused = 7
+abbrev pub stepped_number : Option InstanceMetaData → ℕ
+stepped_number (Some i) = 0
+stepped_number None = 7

@@ -1,79 +1,70 @@
 -- The lifecycle step as the code meets it, the answer on the left; and what holds of every step.
-use Rattle.std.specs.Prelude.{◌≡◌, Bool, ◌&&◌, ◌+◌, ◌≤◌}
+use Rattle.std.specs.Prelude.{◌≡◌, Bool, ◌+◌, ◌≤◌, Option, Some, None}
 use Rattle.std.proofs.Math.Path.{refl, ap}
 use Rattle.std.proofs.Common.{sym, ◌∙◌, arith}
 use Rattle.std.proofs.Math.Bool.{true, false, cond}
-use Rattle.std.proofs.Math.Dec.{leb}
+use Rattle.std.specs.Option.{unwrap_or}
 use Rattle.sampleinfo.specs.Counts.{total, disposed_count, no_writers_count}
 use Rattle.sampleinfo.specs.Lifecycle.{state_of, counts_of, with_state, counts_after, is_alive, is_reborn, is_last, becomes, lifecycle_of, stepped_of, left_by, no_writers_of, lifecycle_number, stepped_number}
 use Rattle.sampleinfo.specs.declared.InstanceState.{InstanceState}
 use Rattle.sampleinfo.specs.declared.InstanceState.TheVariants.{Alive, NotAliveDisposed, NotAliveNoWriters}
 use Rattle.sampleinfo.specs.declared.NotAliveGenerationCounts.{NotAliveGenerationCounts}
 use Rattle.sampleinfo.specs.declared.InstanceMetaData.{InstanceMetaData}
-use Rattle.sampleinfo.specs.declared.Stepped.{Stepped}
-use Rattle.sampleinfo.specs.declared.Stepped.TheVariants as stepped
 
 -- ---- the ways through the step are in proofs/StepLaws.antt
 
 module _ (i : InstanceMetaData) (new : InstanceState) where
-  -- what the answer of a step tells
+  -- the step from the counts after it
 
-  module _ (x : Stepped) (e : x ≡ lifecycle_of i new) where
-    pub told-refused : x ≡ stepped.Refused → true ≡ is_last i new
+  module _ (x : Option NotAliveGenerationCounts) (e : x ≡ cond (is_last i new) None (Some (counts_after (state_of i) new (counts_of i)))) where
+    pub step_refused : x ≡ None → None ≡ lifecycle_of i new
     unfolding lifecycle_of
-    told-refused h = go (is_last i new) (sym e ∙ h)
+    step_refused h = go (is_last i new) (sym e ∙ h)
       where
-        go : (b : Bool) → cond b stepped.Refused (stepped.Now (becomes i new)) ≡ stepped.Refused → true ≡ b
+        go : (b : Bool) → cond b None (Some (counts_after (state_of i) new (counts_of i))) ≡ None → None ≡ cond b None (Some (becomes i new))
         go true q = refl
         go false q = cc
 
-    pub told-now : (y : InstanceMetaData) → x ≡ stepped.Now y → false ≡ is_last i new
+    pub step_moved : (c : NotAliveGenerationCounts) → x ≡ Some c → Some (with_state i new c) ≡ lifecycle_of i new
     unfolding lifecycle_of
-    told-now y h = go (is_last i new) (sym e ∙ h)
+    step_moved c h = go (is_last i new) (sym e ∙ h)
       where
-        go : (b : Bool) → cond b stepped.Refused (stepped.Now (becomes i new)) ≡ stepped.Now y → false ≡ b
-        go true q = cc
-        go false q = refl
-
-    pub stays : x ≡ stepped.Refused → i ≡ stepped_of i new
-    unfolding stepped_of
-    stays h = rw (← (told-refused h))
-
-    pub moves : (y : InstanceMetaData) → x ≡ stepped.Now y → y ≡ stepped_of i new
-    unfolding lifecycle_of stepped_of
-    moves y h = go (is_last i new) (sym e ∙ h)
-      where
-        go : (b : Bool) → cond b stepped.Refused (stepped.Now (becomes i new)) ≡ stepped.Now y → y ≡ cond b i (becomes i new)
+        go : (b : Bool) → cond b None (Some (counts_after (state_of i) new (counts_of i))) ≡ Some c → Some (with_state i new c) ≡ cond b None (Some (becomes i new))
         go true q = cc
         go false q = cc
 
+  -- the lent record after the step
+
+  pub lent_after : (x : Option InstanceMetaData) (y : InstanceMetaData) → x ≡ lifecycle_of i new → y ≡ unwrap_or x i → y ≡ stepped_of i new
+  unfolding lifecycle_of stepped_of
+  lent_after x y e q = rw (q, e) (go (is_last i new))
+    where
+      go : (b : Bool) → unwrap_or (cond b None (Some (becomes i new))) i ≡ cond b i (becomes i new)
+      go true = refl
+      go false = refl
+
   -- the two forms of the step say the same
 
-  pub refused-is : (b : Bool) → b ≡ is_last i new → b ≡ true → stepped.Refused ≡ lifecycle_of i new
-  unfolding lifecycle_of
-  refused-is b e h = rw (← e, h)
-
-  pub now-is : (b : Bool) (y : InstanceMetaData) → b ≡ is_last i new → b ≡ false → y ≡ stepped_of i new → stepped.Now y ≡ lifecycle_of i new
+  pub now_is : (x : InstanceMetaData) (y : InstanceMetaData) → Some x ≡ lifecycle_of i new → y ≡ stepped_of i new → Some y ≡ lifecycle_of i new
   unfolding lifecycle_of stepped_of
-  now-is b y e h q = rw (q, ← e, h)
+  now_is x y e q = rw q (go (is_last i new) e)
+    where
+      go : (b : Bool) → Some x ≡ cond b None (Some (becomes i new)) → Some (cond b i (becomes i new)) ≡ cond b None (Some (becomes i new))
+      go true t = cc
+      go false t = refl
 
   -- the answer with document 01's number of it
-  pub step-told : (r : Stepped) → r ≡ lifecycle_of i new → (r ≡ lifecycle_of i new) × (stepped_number r ≡ lifecycle_number i new)
+  pub step_told : (r : Option InstanceMetaData) → r ≡ lifecycle_of i new → (r ≡ lifecycle_of i new) × (stepped_number r ≡ lifecycle_number i new)
   unfolding lifecycle_of
-  step-told r e = (e, ap stepped_number e ∙ go (is_last i new))
+  step_told r e = (e, ap stepped_number e ∙ go (is_last i new))
     where
-      go : (b : Bool) → stepped_number (cond b stepped.Refused (stepped.Now (becomes i new))) ≡ cond b 7 0
+      go : (b : Bool) → stepped_number (cond b None (Some (becomes i new))) ≡ cond b 7 0
       go true = refl
       go false = refl
 
 -- ---- the no-writers event
 
 module _ (i : InstanceMetaData) where
-  pub left-alive : (y : InstanceMetaData) → y ≡ stepped_of i NotAliveNoWriters → state_of i ≡ Alive → y ≡ no_writers_of i
-  unfolding stepped_of
-  left-alive y e h = e ∙ ap (λ (o : InstanceState). cond (is_reborn o NotAliveNoWriters && leb 2147483647 (total (counts_of i))) i (with_state i NotAliveNoWriters (counts_after o NotAliveNoWriters (counts_of i)))) h
-      ∙ ap (λ (o : InstanceState). with_state i (left_by o) (counts_of i)) (sym h)
-
   pub left-dead : (o : InstanceState) → state_of i ≡ o → left_by o ≡ o → i ≡ no_writers_of i
   left-dead o h q = ap (λ (s : InstanceState). with_state i s (counts_of i)) (h ∙ sym q ∙ ap left_by (sym h))
 

@@ -1,16 +1,12 @@
 -- The table past its end, and the loops over it, as the code meets them.
 use Rattle.std.specs.Prelude.{◌≡◌, refl, Bool, true, false, List, [], ◌∷◌, ◌++◌, ℕ, zero, suc, ◌+◌, ◌-◌, ◌≤◌, ◌<◌, length, drop, set, replicate}
 use Rattle.std.proofs.Common.{sym, ap, ◌∙◌, append-nil, add-one, arith, not-suc-le-zero, le_of_suc-le-suc, length-set}
-use Rattle.std.proofs.Math.ListN.{get_or-eq_default}
 use Rattle.std.proofs.Math.Seq.{set_out, drop-length}
 use Rattle.sampleinfo.specs.Samples.{empty_sample, marked_read}
 use Rattle.sampleinfo.specs.declared.Sample.{Sample}
 use Rattle.samples.specs.Table.{peek_at, swapped, touched, empty_table, put_seen, gathered}
 
 module _ (t : List Sample) (i : ℕ) (h : length t ≤ i) where
-  pub peek-past : (s : Sample) → s ≡ empty_sample → s ≡ peek_at t i
-  peek-past s e = e ∙ sym (get_or-eq_default t empty_sample {n = i} h)
-
   pub set_past : (s : Sample) → t ≡ set t i s
   set_past s = sym (set_out t i s h)
 

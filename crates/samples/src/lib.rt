@@ -5,64 +5,45 @@ ghost use Rattle.std.specs.Prelude.{◌≡◌, ◌<◌, length, set, get_or, rep
 ghost use Rattle.sampleinfo.specs.Samples.{empty_sample, marked_read};
 ghost use Rattle.samples.specs.Table.{peek_at, swapped, touched, empty_table, put_seen, gathered};
 
-// ---- by value
+use sampleinfo::{Sample, State};
 
-fn empty() -> sampleinfo::Sample
-    ensures { result ≡ empty_sample }
-{
-    sampleinfo::Sample::empty()
-}
+// ---- one slot: nothing else stores into the table
 
-fn marked(s: sampleinfo::Sample) -> sampleinfo::Sample
-    ensures { result ≡ marked_read s }
-{
-    s.marked()
-}
-
-// ---- one slot
-
-fn get(t: &[sampleinfo::Sample], i: usize) -> sampleinfo::Sample
-    requires { i < length t.now }
-    ensures { result ≡ get_or t.now i empty_sample }
-{
-    t[i]
-}
-
-fn put(t: &mut [sampleinfo::Sample], i: usize, s: sampleinfo::Sample)
+fn put(t: &mut [Sample], i: usize, s: Sample)
     requires { i < length t.old }
     ensures { t.new ≡ set t.old i s }
 {
     t[i] = s;
 }
 
-fn clear(t: &mut [sampleinfo::Sample], i: usize)
+fn clear(t: &mut [Sample], i: usize)
     requires { i < length t.old }
     ensures { t.new ≡ set t.old i empty_sample }
 {
-    t[i] = empty();
+    t[i] = Sample::empty();
 }
 
-fn mark(t: &mut [sampleinfo::Sample], i: usize)
+fn mark(t: &mut [Sample], i: usize)
     requires { i < length t.old }
     ensures { t.new ≡ set t.old i (marked_read (get_or t.old i empty_sample)) }
 {
-    t[i] = marked(t[i]);
+    t[i] = t[i].marked();
 }
 
 // ---- as the cache uses them: total
 
 // The record in a slot, and the empty record past the end.
-pub fn peek(t: &[sampleinfo::Sample], i: usize) -> sampleinfo::Sample
+pub fn peek(t: &[Sample], i: usize) -> Sample
     ensures { result ≡ peek_at t.now i }
 {
-    if i < t.len() {
-        return get(t, i);
+    match t.get(i) {
+        Some(s) => *s,
+        None => Sample::empty(),
     }
-    empty()
 }
 
 // The slot gets the empty record back. A number past the end changes nothing.
-pub fn free(t: &mut [sampleinfo::Sample], i: usize)
+pub fn free(t: &mut [Sample], i: usize)
     ensures { t.new ≡ set t.old i empty_sample }
 {
     if i < t.len() {
@@ -71,7 +52,7 @@ pub fn free(t: &mut [sampleinfo::Sample], i: usize)
 }
 
 // The slot gets this record. A number past the end changes nothing.
-pub fn store(t: &mut [sampleinfo::Sample], i: usize, s: sampleinfo::Sample)
+pub fn store(t: &mut [Sample], i: usize, s: Sample)
     ensures { t.new ≡ set t.old i s }
 {
     if i < t.len() {
@@ -80,12 +61,7 @@ pub fn store(t: &mut [sampleinfo::Sample], i: usize, s: sampleinfo::Sample)
 }
 
 // Room is made first: the record of the slot that is pushed out goes, and is the answer; then the other slot gets its record.
-pub fn swap(
-    t: &mut [sampleinfo::Sample],
-    old: usize,
-    slot: usize,
-    s: sampleinfo::Sample,
-) -> sampleinfo::Sample
+pub fn swap(t: &mut [Sample], old: usize, slot: usize, s: Sample) -> Sample
     ensures value { result ≡ peek_at t.old old }
     ensures t_after { t.new ≡ swapped t.old old slot s }
 {
@@ -96,7 +72,7 @@ pub fn swap(
 }
 
 // What a list does to a slot: a take empties it, a read marks its record. A number past the end changes nothing.
-pub fn touch(t: &mut [sampleinfo::Sample], i: usize, take: bool)
+pub fn touch(t: &mut [Sample], i: usize, take: bool)
     ensures { t.new ≡ touched t.old i take }
 {
     if i < t.len() {
@@ -108,20 +84,19 @@ pub fn touch(t: &mut [sampleinfo::Sample], i: usize, take: bool)
     }
 }
 
-// Every record of the table is the empty record, 256 of them where the table is as long as it must be.
-pub fn fill(t: &mut [sampleinfo::Sample])
+// Every record of the table is the empty record, 256 of them where the table is as long as it must be. Slot by slot by
+// `clear` and not by the library's `fill`: few functions touch the lent table.
+pub fn fill(t: &mut [Sample])
     ensures { (t.new ≡ replicate (length t.old) empty_sample) × (length t.old ≡ 256 → t.new ≡ empty_table) }
 {
-    let mut i: usize = 0;
-    while i < t.len() {
+    for i in 0..t.len() {
         clear(t, i);
-        i += 1;
     }
 }
 
 // ---- what a choice asks of each record, as numbers: sequence number, sample state, total
 
-fn put_seen(out: &mut [u64; 768], i: usize, s: sampleinfo::Sample)
+fn put_seen(out: &mut [u64; 768], i: usize, s: Sample)
     requires { i < 256 }
     ensures { out.new ≡ put_seen out.old i s }
 {
@@ -133,13 +108,10 @@ fn put_seen(out: &mut [u64; 768], i: usize, s: sampleinfo::Sample)
 }
 
 // Of each of 256 slots.
-pub fn gather(t: &[sampleinfo::Sample], out: &mut [u64; 768])
+pub fn gather(t: &[Sample], out: &mut [u64; 768])
     ensures { out.new ≡ gathered 256 0 t.now out.old }
 {
-    let mut i: usize = 0;
-    while i < 256 {
-        let s = peek(t, i);
-        put_seen(out, i, s);
-        i += 1;
+    for i in 0..256 {
+        put_seen(out, i, peek(t, i));
     }
 }

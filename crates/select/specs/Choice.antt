@@ -1,5 +1,7 @@
 -- Choosing on numbers: what the header's free slots, the lent words and the three numbers of each record say of a slot.
 use Rattle.std.specs.Prelude.{◌≡◌, Bool, not, ◌&&◌, cond, List, [], ◌∷◌, ◌++◌, ℕ, zero, suc, ◌+◌, ◌*◌, ◌<◌, eqb, get_or}
+use Rattle.std.specs.declared.option.Option as the_code
+use Rattle.std.specs.declared.option.Option.TheVariants.{None, Some}
 use Rattle.std.proofs.Math.Option.{Option, some, none}
 use Rattle.sampleinfo.specs.States.{sample_bit}
 use Rattle.sampleinfo.specs.Lifecycle.{state_of, accessed_of}
@@ -16,17 +18,15 @@ use Rattle.model.specs.Views.{view_of}
 use Rattle.store.specs.Choosing.{in_scope}
 use Rattle.index.specs.Words.{names_in, metas_in, keys_in, owners_in, meta_at}
 use Rattle.pairs.specs.Flat.{hit_at}
-use Rattle.select.specs.declared.Within.{Within}
-use Rattle.select.specs.declared.Within.TheVariants as within
 
 -- "Read 1, NotRead 2"
 abbrev pub state_for : ℕ → SampleState
 state_for bit = cond (eqb bit 1) Read NotRead
 
 -- choosing over all instances, or within one
-abbrev pub scope_of : Within → Option ℕ
-scope_of within.All = none
-scope_of (within.Instance n) = some n
+abbrev pub scope_of : the_code.Option ℕ → Option ℕ
+scope_of None = none
+scope_of (Some n) = some n
 
 -- the row of the slot's instance, its name and its record
 abbrev pub row_on : List ℕ → ℕ → ℕ

@@ -1,16 +1,15 @@
 -- What is chosen of a slot, as the code meets it.
-use Rattle.std.specs.Prelude.{◌≡◌, Bool, not, List, [], ℕ, ◌+◌, ◌-◌, ◌*◌, ◌<◌, ◌≤◌, eqb, get_or}
+use Rattle.std.specs.Prelude.{◌≡◌, Bool, not, List, [], ℕ, ◌+◌, ◌*◌, eqb, get_or}
 use Rattle.std.proofs.Common.{◌∙◌}
 use Rattle.std.proofs.Math.Path.{ap}
 use Rattle.std.proofs.Math.Bool.{true, false}
+use Rattle.std.specs.declared.option.Option as the_code
+use Rattle.std.specs.declared.option.Option.TheVariants.{Some}
 use Rattle.std.proofs.Math.Option.{Option}
-use native.Mathlib.Omega.{arith}
-use borrow.Author.Tests.{ne_eqb, lt-ltb, le-ltb, not-true, not-false}
+use borrow.Author.Tests.{not-true, not-false}
 use Rattle.sampleinfo.specs.Lifecycle.{state_of, accessed_of}
 use Rattle.sampleinfo.specs.declared.SampleState.{SampleState}
-use Rattle.sampleinfo.specs.declared.SampleState.TheVariants.{Read, NotRead}
 use Rattle.sampleinfo.specs.declared.ViewState.{ViewState}
-use Rattle.sampleinfo.specs.declared.ViewState.TheVariants.{New, NotNew}
 use Rattle.sampleinfo.specs.declared.InstanceMetaData.{InstanceMetaData}
 use Rattle.slots.specs.Bits.{free_at}
 use Rattle.readcondition.specs.Masks.{chosen_by}
@@ -18,29 +17,11 @@ use Rattle.readcondition.specs.declared.ReadCondition.{ReadCondition}
 use Rattle.model.specs.Views.{view_of}
 use Rattle.store.specs.Choosing.{in_scope}
 use Rattle.index.specs.Words.{names_in, metas_in, owners_in, meta_at}
-use Rattle.select.specs.declared.Within.{Within}
-use Rattle.select.specs.declared.Within.TheVariants as within
 use Rattle.select.specs.Choice.{state_for, scope_of, chosen_on, hit_on}
 
--- ---- the three states and the scope
+-- ---- the scope
 
-pub state-read : (b : ℕ) → b ≡ 1 → Read ≡ state_for b
-state-read b e = rw e
-
-pub state-not-read : (b : ℕ) → (b ≡ 1 → ⊥) → NotRead ≡ state_for b
-state-not-read b e = rw (ne_eqb b 1 e)
-
-module _ (a t : ℕ) where
-  pub view-never : a < 2 → New ≡ view_of a t
-  view-never h = rw (lt-ltb a (t + 2) (omega arith))
-
-  pub view-new : 2 ≤ a → a - 2 < t → New ≡ view_of a t
-  view-new l h = rw (lt-ltb a (t + 2) (omega arith))
-
-  pub view-not-new : 2 ≤ a → t ≤ a - 2 → NotNew ≡ view_of a t
-  view-not-new l h = rw (le-ltb a (t + 2) (omega arith))
-
-pub within-one : (w : Within) (name n : ℕ) → w ≡ within.Instance n → eqb name n ≡ in_scope (scope_of w) name
+pub within-one : (w : the_code.Option ℕ) (name n : ℕ) → w ≡ Some n → eqb name n ≡ in_scope (scope_of w) name
 within-one w name n e = rw e
 
 -- ---- a slot

@@ -1,14 +1,21 @@
 -- What lies in memory for what stands, and what answering a record is to leave.
-use Rattle.std.specs.Prelude.{◌≡◌, true, false, List, ◌++◌, ℕ, ◌*◌, ◌<◌, length, drop}
+use Rattle.std.specs.Prelude.{◌≡◌, true, List, is_some, ◌++◌, ℕ, ◌*◌, ◌<◌, length, drop}
 use Rattle.std.proofs.Math.Option.{Option, some, none}
+use Rattle.std.specs.declared.option.Option as the_code
+use Rattle.std.specs.declared.option.Option.TheVariants.{None, Some}
+use Rattle.std.specs.declared.result.Result.{Result}
+use Rattle.std.specs.declared.result.Result.TheVariants.{Err}
+use Rattle.refusals.specs.declared.Refusal.{Refusal}
+use Rattle.refusals.specs.declared.Refusal.TheVariants as refusal
 use Rattle.sampleinfo.specs.declared.Sample.{Sample}
 use Rattle.model.specs.Model.{Model, Answer, refused, ok, added, selected, infos, next}
 use Rattle.refine.specs.Good.{Good}
+use Rattle.index.specs.declared.Cache.{Cache}
 use Rattle.memory.specs.Lies.{Lies}
 use Rattle.pairs.specs.Flat.{pair_words}
 use Rattle.infos.specs.Words.{infos_then}
 use Rattle.records.specs.Format.{too_long, call_of, bad}
-use Rattle.replies.specs.Steps.{declined_with}
+use Rattle.replies.specs.Steps.{session_after, reply_in}
 use Rattle.bounds.specs.Small.{AllSmall}
 use Rattle.printing.specs.Printout.{printed}
 use Rattle.printing.specs.Lines.{Laid}
@@ -18,16 +25,21 @@ use Rattle.replies.specs.declared.Session.{Session}
 use Rattle.replies.specs.declared.Replied.{Replied}
 use Rattle.session.specs.declared.Answered.{Answered}
 
+-- under the header that a session holds
+abbrev pub Held : Model → the_code.Option Cache → List ℕ → List Sample → Type 0
+Held m None ws t = ⊥
+Held m (Some h) ws t = Lies m h ws t
+
 -- a cache that only the calls have changed, as it lies in memory
 pub record Ready (m : Model) (s : Session) (ws : List ℕ) (t : List Sample) : Type 0 where
-  pub ready : s.ready ≡ true
+  pub ready : is_some s.head ≡ true
   pub good : Good m
   pub small : AllSmall m
-  pub lies : Lies m s.head ws t
+  pub lies : Held m s.head ws t
 
 -- before an accepted set-up there is only the room for the table
 pub record Unready (s : Session) (t : List Sample) : Type 0 where
-  pub unready : s.ready ≡ false
+  pub unready : s.head ≡ None
   pub long : length t ≡ 256
 
 abbrev pub Stands : Option Model → Session → List ℕ → List Sample → Type 0
@@ -64,17 +76,17 @@ infos_left (selected ps) was = was
 infos_left (next k) was = was
 
 -- the reply, with the pairs and the infos beside it, says the answer. As found: s, ws, t, and the buffers ps and is; as left: after, then, qs and js
-pub record Answers (u : Turn) (s : Session) (ws : List ℕ) (t : List Sample) (ps is : List ℕ) (r : Replied) (after : List ℕ) (then : List Sample) (qs js : List ℕ) : Type 0 where
-  pub says : Says r.reply qs js u.answer
-  pub stands : Stands u.then r.session after then
-  pub kept : Kept u.then s ws t r.session after then
+pub record Answers (u : Turn) (s : Session) (ws : List ℕ) (t : List Sample) (ps is : List ℕ) (r : Result Replied Refusal) (after : List ℕ) (then : List Sample) (qs js : List ℕ) : Type 0 where
+  pub says : Says (reply_in r) qs js u.answer
+  pub stands : Stands u.then (session_after s r) after then
+  pub kept : Kept u.then s ws t (session_after s r) after then
   pub pairs : qs ≡ pairs_left u.answer ps
   pub infos : js ≡ infos_left u.answer is
 
 -- a record's reply: its turn, where something stands; and a malformed record is refused with 1 and leaves all as found, whatever lies in memory
-pub record Turns (rec : List ℕ) (s : Session) (ws : List ℕ) (t : List Sample) (ps is : List ℕ) (r : Replied) (after : List ℕ) (then : List Sample) (qs js : List ℕ) : Type 0 where
+pub record Turns (rec : List ℕ) (s : Session) (ws : List ℕ) (t : List Sample) (ps is : List ℕ) (r : Result Replied Refusal) (after : List ℕ) (then : List Sample) (qs js : List ℕ) : Type 0 where
   pub stood : (st : Option Model) → length rec < too_long → Stands st s ws t → Answers (turn st rec) s ws t ps is r after then qs js
-  pub malformed : bad (call_of rec) ≡ true → (r ≡ declined_with s 1) × (after ≡ ws) × (then ≡ t) × (qs ≡ ps) × (js ≡ is)
+  pub malformed : bad (call_of rec) ≡ true → (r ≡ Err refusal.Malformed) × (after ≡ ws) × (then ≡ t) × (qs ≡ ps) × (js ≡ is)
 
 -- the lines of the answer stand first in the lent bytes, and the rest of them is as it was
 pub record Responds (u : Turn) (s : Session) (ws : List ℕ) (t : List Sample) (ps is was : List ℕ) (r : Answered) (after : List ℕ) (then : List Sample) (qs js line : List ℕ) : Type 0 where

@@ -2,20 +2,26 @@
 // before it waits for the next one. With --full it also prints the writer and the sequence number of each info, for the comparison with the Rust.
 #![tactic(auto)]
 
-ghost use Rattle.std.specs.Prelude.{◌≤◌, ◌<◌, ◌≡◌, length};
+ghost use Rattle.std.specs.Prelude.{◌≤◌, ◌≡◌, length};
 ghost use Rattle.std.proofs.Math.Option.{Option};
 ghost use Rattle.sampleinfo.specs.Samples.{empty_sample};
 ghost use Rattle.model.specs.Model.{Model};
 ghost use Rattle.session.specs.Stands.{Stands};
-ghost use Rattle.session_main.specs.RecordLaws.{stopped_at, Tells, Turned};
+ghost use Rattle.session_main.specs.RecordLaws.{Tells, Turned};
 
-use frames::{Piece, Record, Source, Told};
+use answers::Reply;
+use frames::{Stop, Told};
+use index::Cache;
 use replies::Session;
+use sampleinfo::Sample;
 use session::Answered;
 use std::env::FillError;
-use std::io;
 use std::io::{Stderr, Stdin, Stdout};
 use std::rt::Env;
+use std::{io, str};
+
+// The bytes of the longest record, as two length bytes say it.
+const LONGEST: usize = u16::MAX as usize;
 
 // Where lines go, and where what went wrong is told.
 #[derive(Clone, Copy)]
@@ -26,45 +32,17 @@ struct Streams {
 
 // ---- what a session does not print of an info, for the comparison with the Rust
 
-fn wide(x: u8) -> usize
-    ensures { result < 256 }
-{
-    x as usize
-}
-
-// The number behind "samples "; 0 where the line starts otherwise.
-fn samples_told(line: &[u8]) -> usize {
-    if line.len() < 11 {
-        return 0;
-    }
-    if line[1] != 97 {
-        return 0;
-    }
-    let mut n: usize = 0;
-    let mut i = 8;
-    while i < 11 {
-        let d = line[i];
-        if d < 48 {
-            return n;
-        }
-        if 57 < d {
-            return n;
-        }
-        if 99 < n {
-            return n;
-        }
-        n = n * 10 + wide(d - 48);
-        i += 1;
-    }
-    n
+// The number behind "samples "; 0 where the lines start otherwise.
+fn samples_told(lines: &[u8]) -> usize {
+    let text = str::from_utf8(lines).unwrap_or("");
+    let first = text.lines().next().unwrap_or("");
+    let samples = first.strip_prefix("samples ").unwrap_or("");
+    samples.parse().unwrap_or(0)
 }
 
 fn tell_writer(output: Stdout, writer: [u8; 16]) -> io::Result<()> {
-    let mut i = 0;
-    while i < 16 {
-        let byte = writer[i];
+    for byte in writer {
         print!(output; "{byte:02x}")?;
-        i += 1;
     }
     Ok(())
 }
@@ -76,12 +54,10 @@ fn tell_info(output: Stdout, writer: [u8; 16], sequence_number: u64) -> io::Resu
 
 // A line for each info: its writer and its sequence number.
 fn tell_writers(output: Stdout, infos: &[u64], n: usize) -> io::Result<()> {
-    let mut p = 0;
-    while p < n {
+    for p in 0..n {
         let info = infos::get_info(infos, p);
         let writer = info.publication_handle;
         tell_info(output, writer, info.sequence_number)?;
-        p += 1;
     }
     Ok(())
 }
@@ -103,123 +79,92 @@ fn cut_off(streams: Streams) {
 }
 
 // No whole piece of the input came: its end, a cut-off piece, or a failed read.
-fn over(streams: Streams, piece: Piece, last: io::Result<()>) {
-    if piece.cut {
-        cut_off(streams);
-    }
-    if piece.failed {
-        frames::checked(&streams.errors, last, b"session_main: read");
+fn over(streams: Streams, why: Stop) {
+    match why {
+        Stop::Over => {}
+        Stop::Cut => cut_off(streams),
+        Stop::Failed(why) => {
+            frames::checked(&streams.errors, Err(why), b"session_main: read");
+        }
     }
 }
 
 // ---- a record
 
-#[derive(Clone, Copy)]
+// What is lent beside the cache's memory: the length bytes and the bytes of a record, and what answers it.
+#[derive(Drop)]
+struct Buffers {
+    two: [u8; 2],
+    rec: [u8; LONGEST],
+    pairs: [u64; Reply::PAIRS_SIZE],
+    infos: [u64; Reply::INFOS_SIZE],
+    line: [u8; Reply::LINES_SIZE],
+}
+
+// The session after a record, and how its lines were told.
+#[derive(Drop)]
 struct After {
     session: Session,
-    go: bool,
-    // how many of the lent bytes were handed to the output
-    told: usize,
+    told: Told,
 }
 
-fn stopped(streams: Streams, s: Session, came: Record, last: io::Result<()>) -> After
-    ensures { result ≡ stopped_at s }
-{
-    over(streams, came.piece, last);
-    After {
-        session: s,
-        go: false,
-        told: 0,
-    }
-}
-
-// The lines of a record that was answered. A failed write ends the session, and is told.
+// The lines of a record that was answered.
 fn tell_all(streams: Streams, full: bool, a: Answered, line: &[u8], infos: &[u64]) -> After
     ensures { Tells a line.now result }
 {
     let told = frames::tell(&streams.output, line, a.size);
-    let done = tell_more(streams.output, full, told, line, infos);
-    let after = a.session;
+    let size = told.size;
     After {
-        session: after,
-        go: frames::checked(&streams.errors, done, b"session_main: write"),
-        told: told.size,
+        session: a.session,
+        told: Told {
+            done: tell_more(streams.output, full, told, &line[..size], infos),
+            size,
+        },
     }
 }
 
 fn one_record(
     streams: Streams,
-    input: &mut Source<Stdin>,
+    input: &mut Stdin,
     s: Session,
-    ws: &mut [u64; 928],
-    t: &mut [sampleinfo::Sample],
-    two: &mut [u8],
-    rec: &mut [u8],
-    pairs: &mut [u64; 512],
-    infos: &mut [u64; 6912],
-    line: &mut [u8; 66048],
+    ws: &mut [u64; Cache::WORDS],
+    t: &mut [Sample],
+    lent: &mut Buffers,
     full: bool,
-) -> After
-    ensures { (st : Option Model) → Stands st s ws.old t.old → Turned st s ws.old t.old two.new rec.new pairs.old infos.old line.old result ws.new t.new pairs.new infos.new line.new }
+) -> Result<After, Stop>
+    ensures two_len_unchanged { length lent.new.two ≡ length lent.old.two }
+    ensures rec_len_unchanged { length lent.new.rec ≡ length lent.old.rec }
+    ensures turn { (st : Option Model) → Stands st s ws.old t.old → Turned st s ws.old t.old lent.new.two lent.new.rec lent.old.pairs lent.old.infos lent.old.line result ws.new t.new lent.new.pairs lent.new.infos lent.new.line }
 {
-    let came = frames::next_record(input, two, rec);
-    if !came.piece.go {
-        return stopped(streams, s, came, input.last);
-    }
-    let n = came.size;
-    let r = session::respond(s, ws, t, &rec[..n], pairs, infos, line);
-    tell_all(streams, full, r, line, infos)
+    let n = frames::next_record(input, &mut lent.two, &mut lent.rec)?;
+    let rec = &lent.rec[..n];
+    let a = session::respond(
+        s,
+        ws,
+        t,
+        rec,
+        &mut lent.pairs,
+        &mut lent.infos,
+        &mut lent.line,
+    );
+    Ok(tell_all(streams, full, a, &lent.line, &lent.infos))
 }
 
-fn empty_record() -> sampleinfo::Sample
+fn empty_record() -> Sample
     ensures { result ≡ empty_sample }
 {
-    sampleinfo::Sample::empty()
+    Sample::empty()
 }
 
 // ---- the arguments
 
-// The word --full.
-fn is_full(word: &[u8]) -> bool {
-    if word.len() != 6 {
-        return false;
-    }
-    let full = [45u8, 45, 102, 117, 108, 108];
-    let mut i = 0;
-    while i < 6 {
-        if word[i] != full[i] {
-            return false;
-        }
-        i += 1;
-    }
-    true
-}
-
-#[derive(Clone, Copy)]
-struct Asked {
-    known: bool,
-    full: bool,
-}
-
-// Nothing, or --full alone.
-fn arguments<R: Env>(rt: &R) -> Asked {
+// Nothing, or --full alone: whether it is given. Other arguments are none of these.
+fn arguments<R: Env>(rt: &R) -> Option<bool> {
     let mut word = [0u8; 16];
     match rt.arg(1, &mut word) {
-        Ok(n) => {
-            let full = is_full(&word[..n]);
-            Asked {
-                known: full && is_missing(rt, 2),
-                full: full,
-            }
-        }
-        Err(FillError::TooLong) => Asked {
-            known: false,
-            full: false,
-        },
-        Err(FillError::NotPresent) => Asked {
-            known: true,
-            full: false,
-        },
+        Err(FillError::NotPresent) => Some(false),
+        Ok(n) if &word[..n] == b"--full".as_slice() && is_missing(rt, 2) => Some(true),
+        _ => None,
     }
 }
 
@@ -235,73 +180,55 @@ fn usage(streams: Streams) {
 
 // ---- the session
 
-// How many records the session may have, and whether it also tells the writers.
-#[derive(Clone, Copy)]
-struct Begun {
-    turns: u64,
-    full: bool,
-}
-
-fn not_begun() -> Begun {
-    Begun {
-        turns: 0,
-        full: false,
-    }
-}
-
-fn begin<R: Env>(rt: &R, streams: Streams, input: &mut Source<Stdin>) -> Begun {
-    let ask = arguments(rt);
-    if !ask.known {
+// Whether the session also tells the writers; none where it does not begin, and what keeps it is told.
+fn begin<R: Env>(rt: &R, streams: Streams, input: &mut Stdin) -> Option<bool> {
+    let Some(full) = arguments(rt) else {
         usage(streams);
-        return not_begun();
-    }
+        return None;
+    };
     let mut one = [0u8; 1];
-    let version = frames::next_version(input, &mut one);
-    if !version.go {
-        over(streams, version, input.last);
-        return not_begun();
-    }
-    Begun {
-        turns: u64::MAX,
-        full: ask.full,
+    match frames::next_version(input, &mut one) {
+        Ok(()) => Some(full),
+        Err(why) => {
+            over(streams, why);
+            None
+        }
     }
 }
 
-// How many records the session may still have after one.
-fn turns_after(turns: u64, go: bool) -> u64
-    requires { 0 < turns }
-    ensures { result < turns }
-{
-    if !go {
-        return 0;
-    }
-    turns - 1
-}
-
-// Its only way out is the end of its loop.
+// A record that did not come or lines that could not be written end it, and 2^64 - 1 records do, so that it is proved to end.
 fn main(rt: HostRuntime) {
     let streams = Streams {
         output: rt.stdout(),
         errors: rt.stderr(),
     };
-    let mut input = Source::new(rt.stdin());
-    let begun = begin(&rt, streams, &mut input);
+    let mut input = rt.stdin();
+    let Some(full) = begin(&rt, streams, &mut input) else {
+        return;
+    };
     let empty = empty_record();
-    let mut t = [empty; 256];
-    let mut ws = [0u64; 928];
-    let mut two = [0u8; 2];
-    let mut rec = [0u8; 65535];
-    let mut pairs = [0u64; 512];
-    let mut infos = [0u64; 6912];
-    let mut line = [0u8; 66048];
+    let mut t = [empty; Cache::SLOTS];
+    let mut ws = [0; Cache::WORDS];
+    let mut lent = Buffers {
+        two: [0; 2],
+        rec: [0; LONGEST],
+        pairs: [0; Reply::PAIRS_SIZE],
+        infos: [0; Reply::INFOS_SIZE],
+        line: [0; Reply::LINES_SIZE],
+    };
     let mut s = session::start();
-    let mut turns = begun.turns;
-    while turns > 0 {
-        let r = one_record(
-            streams, &mut input, s, &mut ws, &mut t, &mut two, &mut rec, &mut pairs, &mut infos,
-            &mut line, begun.full,
-        );
-        s = r.session;
-        turns = turns_after(turns, r.go);
+    'records: for _ in 0..u64::MAX {
+        match one_record(streams, &mut input, s, &mut ws, &mut t, &mut lent, full) {
+            Ok(after) => {
+                s = after.session;
+                if !frames::checked(&streams.errors, after.told.done, b"session_main: write") {
+                    return;
+                }
+            }
+            Err(why) => {
+                over(streams, why);
+                return;
+            }
+        }
     }
 }

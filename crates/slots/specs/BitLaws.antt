@@ -1,18 +1,20 @@
 -- Laws of the free slots' list: the counts of bits are what the list says, and one bit set or cleared is one place of it.
-use Rattle.std.specs.Prelude.{◌≡◌, refl, false, List, [], ◌∷◌, ◌++◌, ℕ, zero, suc, ◌+◌, ◌-◌, ◌*◌, ◌/◌, ◌%◌, ◌^◌, ◌≤◌, ◌<◌, length, get_or, set, drop, eqb}
-use Rattle.std.proofs.Common.{sym, ◌∙◌, suc-le-suc, pow-suc, not-suc-le-zero, le_of_suc-le-suc, zero-add, div-one, lt_of_not-le, one-mul, one-add, add-one, arith, drop_of_length-le, length-append, get_or-append-add, drop-cons, shr-shr, shl_exact, lit<, Fits}
+use Rattle.std.specs.Prelude.{Some, ◌≡◌, ◌⊎◌, refl, false, List, [], ◌∷◌, ◌++◌, ℕ, zero, suc, ◌+◌, ◌*◌, ◌/◌, ◌%◌, ◌^◌, ◌≤◌, ◌<◌, length, get_or, set, drop, eqb}
+use Rattle.std.proofs.Common.{inl, inr, sym, lt-ltb, ◌∙◌, suc-le-suc, pow-suc, not-suc-le-zero, le_of_suc-le-suc, zero-add, div-one, one-add, add-one, arith, drop_of_length-le, length-append, get_or-append-add, drop-cons, shr-shr, Fits}
 use Rattle.std.proofs.Math.Path.{ap}
-use Rattle.std.proofs.Math.Decide.{dec_le}
-use Rattle.std.proofs.Math.Nat.{div-eq_of_lt}
 use Rattle.std.proofs.Math.ListN.{get_or-append, get_or-eq_default}
-use Rattle.std.proofs.lemmas.List.{set-append_left, set-get_or}
+use Rattle.std.proofs.lemmas.List.{set-append_left, length-set, get_or-set_same, get_or-set_other}
 use Rattle.std.proofs.Math.Seq.{set_out, drop-nil}
 use Rattle.std.specs.Int.Count.{ones, ones_step, count_trailing_zeros, trailing_of_zero}
-use Rattle.std.proofs.lemmas.Nat.{ones-le, trailing_le}
+use Rattle.std.proofs.lemmas.Nat.{ones-le}
 use Rattle.std.proofs.Math.Arith.{lt-one}
-use Rattle.std.specs.Int.{w32, w64}
+use Rattle.std.specs.Int.{w64, bit_at, bit_not}
+use Rattle.std.specs.Int.RustNames.{bit_or, bit_and}
+use Rattle.std.proofs.lemmas.Nat.Bits.{bit_at_set_same, bit_at_set_other, bit_at_clear_same, bit_at_clear_other}
+use Rattle.std.proofs.lemmas.Grind.{same_number_lists}
+use Rattle.std.proofs.lemmas.Bool.{cases_eq}
 use Rattle.lists.specs.Blocks.{set-append-add}
-use Rattle.slots.specs.Bits.{digits, bits_of, free_at, total, after, first_one}
+use Rattle.slots.specs.Bits.{digits, bits_of, free_at, total, after, first_one, slot_in}
 
 -- ---- one word
 
@@ -41,49 +43,27 @@ digit_at zero n i h = absurd (not-suc-le-zero h)
 digit_at (suc d) n zero h = rw div-one
 digit_at (suc d) n (suc i) h = digit_at d (n / 2) i (le_of_suc-le-suc h) ∙ rw halved
 
-bit_le : (n k : ℕ) → n / k % 2 ≡ 1 → k ≤ n
-bit_le n k e = go (dec_le k n)
+-- a number that differs from n in one digit at most
+one-digit : (d n v r b : ℕ) → r < d → bit_at v r ≡ b → ((i : ℕ) → i < d → (i ≡ r → ⊥) → bit_at v i ≡ bit_at n i) → digits d v ≡ set (digits d n) r b
+one-digit d n v r b low here others = same_number_lists (digits d v) (set (digits d n) r b) sizes each
   where
-    go : Dec (k ≤ n) → k ≤ n
-    go (yes h) = h
-    go (no h) = omega (arith, div-eq_of_lt (lt_of_not-le h))
+    sizes : length (digits d v) ≡ length (set (digits d n) r b)
+    sizes = rw (length-set, length_digits, length_digits)
 
--- a bit that is 1, taken away
-pub cleared : (d n i : ℕ) → i < d → n / 2 ^ i % 2 ≡ 1 → digits d (n - 2 ^ i) ≡ set (digits d n) i 0
-unfolding digits
-cleared zero n i h e = absurd (not-suc-le-zero h)
-cleared (suc d) n zero h e =
-    let o : n % 2 ≡ 1 = omega (arith, div-one n) in
-    let q : (n - 1) / 2 ≡ n / 2 = omega arith in
-    let r : (n - 1) % 2 ≡ 0 = omega arith in rw (q, r)
-cleared (suc d) n (suc i) h e =
-    let q : (n - 2 ^ suc i) / 2 ≡ n / 2 - 2 ^ i = omega (arith, pow-suc 2 i) in
-    let r : (n - 2 ^ suc i) % 2 ≡ n % 2 = omega (arith, pow-suc 2 i, bit_le n (2 ^ suc i) e) in
-    rw (q, r, cleared d (n / 2) i (le_of_suc-le-suc h) (rw halved e))
+    each : (i : ℕ) → i < length (digits d v) → get_or (digits d v) i 0 ≡ get_or (set (digits d n) r b) i 0
+    each i h = go (cases_eq i r)
+      where
+        go : (i ≡ r) ⊎ (i ≡ r → ⊥) → get_or (digits d v) i 0 ≡ get_or (set (digits d n) r b) i 0
+        go (inl e) = rw e (digit_at d v r low ∙ here ∙ sym (get_or-set_same (digits d n) r b 0 (rw length_digits low)))
+        go (inr ne) = digit_at d v i (rw length_digits at h) ∙ others i (rw length_digits at h) ne ∙ sym (get_or-set_other (digits d n) r i b 0 ne ∙ digit_at d n i (rw length_digits at h))
 
--- a bit that is 0, put in
-pub added : (d n i : ℕ) → i < d → n / 2 ^ i % 2 ≡ 0 → digits d (n + 2 ^ i) ≡ set (digits d n) i 1
-unfolding digits
-added zero n i h e = absurd (not-suc-le-zero h)
-added (suc d) n zero h e =
-    let o : n % 2 ≡ 0 = omega (arith, div-one n) in
-    let q : (n + 1) / 2 ≡ n / 2 = omega arith in
-    let r : (n + 1) % 2 ≡ 1 = omega arith in rw (q, r)
-added (suc d) n (suc i) h e =
-    let q : (n + 2 ^ suc i) / 2 ≡ n / 2 + 2 ^ i = omega (arith, pow-suc 2 i) in
-    let r : (n + 2 ^ suc i) % 2 ≡ n % 2 = omega (arith, pow-suc 2 i) in
-    rw (q, r, added d (n / 2) i (le_of_suc-le-suc h) (rw halved e))
+-- a bit of a word set, as `w | 1 << r` does, and cleared, as `w & !(1 << r)` does
+module _ (w r : ℕ) (low : r < 64) where
+  pub bit_set : digits 64 (bit_or w (1 * 2 ^ r % 2 ^ 64)) ≡ set (digits 64 w) r 1
+  bit_set = one-digit 64 w _ r 1 low (bit_at_set_same w64 w r low) (λ i h ne. bit_at_set_other w64 w r low i ne)
 
-pub added-lt : (d n i : ℕ) → i < d → n < 2 ^ d → n / 2 ^ i % 2 ≡ 0 → n + 2 ^ i < 2 ^ d
-added-lt zero n i h l e = absurd (not-suc-le-zero h)
-added-lt (suc d) n zero h l e = omega (arith, div-one n, pow-suc 2 d)
-added-lt (suc d) n (suc i) h l e =
-    let l2 : n / 2 < 2 ^ d = omega (arith, pow-suc 2 d) in
-    omega (arith, pow-suc 2 d, pow-suc 2 i, added-lt d (n / 2) i (le_of_suc-le-suc h) l2 (rw halved e))
-
--- a bit that is b already, whatever is written there
-pub kept : (d n i b : ℕ) → i < d → n / 2 ^ i % 2 ≡ b → set (digits d n) i b ≡ digits d n
-kept d n i b h e = rw (← (digit_at d n i h ∙ e)) (set-get_or (digits d n) i 0)
+  pub bit_cleared : digits 64 (bit_and w (bit_not w64 (1 * 2 ^ r % 2 ^ 64))) ≡ set (digits 64 w) r 0
+  bit_cleared = one-digit 64 w _ r 0 low (bit_at_clear_same w64 w r low) (bit_at_clear_other w64 w r low)
 
 -- a word that is not 0 has a bit set
 pub some-bit : (d n : ℕ) → n < 2 ^ d → (n ≡ 0 → ⊥) → first_one (digits d n) < d
@@ -140,48 +120,21 @@ get-bits (w ∷ ws) (suc q) r h k =
 
 -- ---- the four words, as the code writes them
 
-one_shl : (r : ℕ) → r < 64 → (1 * 2 ^ r) % 2 ^ 64 ≡ 2 ^ r
-one_shl r h = shl_exact 1 r 64 (lit< tt) (omega arith) ∙ one-mul (2 ^ r)
-
 module _ (ws : List ℕ) (slot : ℕ) (four : length ws ≡ 4) (low : slot < 256) where
   place : 64 * (slot / 64) + slot % 64 ≡ slot
   place = omega arith
 
-  put : (v b : ℕ) → digits 64 v ≡ set (digits 64 (get_or ws (slot / 64) 0)) (slot % 64) b → bits_of (set ws (slot / 64) v) ≡ set (bits_of ws) slot b
+  pub put : (v b : ℕ) → digits 64 v ≡ set (digits 64 (get_or ws (slot / 64) 0)) (slot % 64) b → bits_of (set ws (slot / 64) v) ≡ set (bits_of ws) slot b
   put v b e = set-bits ws (slot / 64) (slot % 64) v b (omega arith) (omega arith) e ∙ rw place
 
-  pub free-here : eqb (get_or ws (slot / 64) 0 / 2 ^ (slot % 64) % 2) 1 ≡ free_at (bits_of ws) slot
-  free-here =
+  pub free_here : eqb (get_or ws (slot / 64) 0 / 2 ^ (slot % 64) % 2) 1 ≡ free_at (bits_of ws) slot
+  free_here =
       let e : get_or (bits_of ws) slot 0 ≡ get_or ws (slot / 64) 0 / 2 ^ (slot % 64) % 2 =
       rw place at (get-bits ws (slot / 64) (slot % 64) (omega arith) (omega arith)) ∙ digit_at 64 (get_or ws (slot / 64) 0) (slot % 64) (omega arith) in
       rw e
 
-  pub take-hit : get_or ws (slot / 64) 0 / 2 ^ (slot % 64) % 2 ≡ 1
-      → bits_of (set ws (slot / 64) (get_or ws (slot / 64) 0 - (1 * 2 ^ (slot % 64)) % 2 ^ 64)) ≡ set (bits_of ws) slot 0
-  take-hit e = rw (one_shl (slot % 64) (omega arith)) (put _ 0 (cleared 64 _ (slot % 64) (omega arith) e))
-
-  pub give-hit : get_or ws (slot / 64) 0 / 2 ^ (slot % 64) % 2 ≡ 0
-      → bits_of (set ws (slot / 64) (get_or ws (slot / 64) 0 + (1 * 2 ^ (slot % 64)) % 2 ^ 64)) ≡ set (bits_of ws) slot 1
-  give-hit e = rw (one_shl (slot % 64) (omega arith)) (put _ 1 (added 64 _ (slot % 64) (omega arith) e))
-
-  pub take-room : get_or ws (slot / 64) 0 / 2 ^ (slot % 64) % 2 ≡ 1 → (1 * 2 ^ (slot % 64)) % 2 ^ 64 ≤ get_or ws (slot / 64) 0
-  take-room e = rw (one_shl (slot % 64) (omega arith)) (bit_le _ _ e)
-
-  pub give-room : get_or ws (slot / 64) 0 / 2 ^ (slot % 64) % 2 ≡ 0 → Fits w64 (get_or ws (slot / 64) 0) → Fits w64 (get_or ws (slot / 64) 0 + (1 * 2 ^ (slot % 64)) % 2 ^ 64)
-  give-room e f = rw (one_shl (slot % 64) (omega arith)) (record { fits = added-lt 64 _ (slot % 64) (omega arith) f.fits e })
-
-  idle : (b : ℕ) → get_or ws (slot / 64) 0 / 2 ^ (slot % 64) % 2 ≡ b → bits_of ws ≡ set (bits_of ws) slot b
-  idle b e = rw (set-get_or ws (slot / 64) 0) at (put _ b (sym (kept 64 _ (slot % 64) b (omega arith) e)))
-
-  -- a bit that is not 1 is 0, and the other way round
-  pub take-idle : (get_or ws (slot / 64) 0 / 2 ^ (slot % 64) % 2 ≡ 1 → ⊥) → bits_of ws ≡ set (bits_of ws) slot 0
-  take-idle n = idle 0 (omega arith)
-
-  pub give-idle : (get_or ws (slot / 64) 0 / 2 ^ (slot % 64) % 2 ≡ 0 → ⊥) → bits_of ws ≡ set (bits_of ws) slot 1
-  give-idle n = idle 1 (omega arith)
-
-pub free-past : (ws : List ℕ) (slot : ℕ) → length ws ≡ 4 → 256 ≤ slot → false ≡ free_at (bits_of ws) slot
-free-past ws slot four h = rw (get_or-eq_default (bits_of ws) 0 {n = slot} (omega (arith, length-bits ws)))
+pub free_past : (ws : List ℕ) (slot : ℕ) → length ws ≡ 4 → 256 ≤ slot → false ≡ free_at (bits_of ws) slot
+free_past ws slot four h = rw (get_or-eq_default (bits_of ws) 0 {n = slot} (omega (arith, length-bits ws)))
 
 pub out_of_range : (ws : List ℕ) (slot b : ℕ) → length ws ≡ 4 → 256 ≤ slot → bits_of ws ≡ set (bits_of ws) slot b
 out_of_range ws slot b four h = sym (set_out (bits_of ws) slot b (omega (arith, length-bits ws)))
@@ -203,9 +156,6 @@ word_total (w ∷ ws) zero f = total-append (digits 64 w) (bits_of ws) ∙ rw (o
 word_total (w ∷ ws) (suc i) f = rw add-one (rw add-one at (word_total ws i f))
 
 module _ (ws : List ℕ) (i n : ℕ) where
-  pub count_room : n ≤ 64 * i → i ≤ 4 → Fits w64 (get_or ws i 0) → Fits w32 (n + ones (get_or ws i 0))
-  count_room h l f = record { fits = omega (arith, ones-le 64 (get_or ws i 0) f.fits) }
-
   pub count_most : n ≤ 64 * i → Fits w64 (get_or ws i 0) → n + ones (get_or ws i 0) ≤ 64 * (i + 1)
   count_most h f = omega (arith, ones-le 64 (get_or ws i 0) f.fits)
 
@@ -213,34 +163,25 @@ module _ (ws : List ℕ) (i n : ℕ) where
       → n + ones (get_or ws i 0) + total (bits_of (drop (i + 1) ws)) ≡ total (bits_of ws)
   count_turn e f = omega (arith, word_total ws i f)
 
-  pub count-end : n + total (bits_of (drop i ws)) ≡ total (bits_of ws) → length ws ≡ 4 → 4 ≤ i → n ≡ total (bits_of ws)
+  pub count_end : n + total (bits_of (drop i ws)) ≡ total (bits_of ws) → length ws ≤ i → n ≡ total (bits_of ws)
   unfolding total
-  count-end e four l = omega (arith, ap total (bits-done ws i (omega arith)))
+  count_end e h = omega (arith, ap total (bits-done ws i h))
 
 module _ (ws : List ℕ) (i : ℕ) where
-  pub lowest-here : 64 * i + first_one (bits_of (drop i ws)) ≡ first_one (bits_of ws) → length ws ≡ 4 → i < 4 → Fits w64 (get_or ws i 0) → (get_or ws i 0 ≡ 0 → ⊥)
-      → i * 64 + count_trailing_zeros 64 (get_or ws i 0) ≡ first_one (bits_of ws)
-  lowest-here e four l f n =
+  pub lowest_here : 64 * i + first_one (bits_of (drop i ws)) ≡ first_one (bits_of ws) → length ws ≡ 4 → i < 4 → Fits w64 (get_or ws i 0) → (get_or ws i 0 ≡ 0 → ⊥)
+      → Some (i * 64 + count_trailing_zeros 64 (get_or ws i 0)) ≡ slot_in (first_one (bits_of ws))
+  lowest_here e four l f n =
       let w = get_or ws i 0 in
       let some : first_one (digits 64 w) < length (digits 64 w) = rw length_digits (some-bit 64 w f.fits n) in
       let here : first_one (bits_of (drop i ws)) ≡ count_trailing_zeros 64 w = rw (bits-drop ws i (omega arith), first-append _ _ some, trailing-is) in
-      omega arith
+      let found : i * 64 + count_trailing_zeros 64 w ≡ first_one (bits_of ws) = omega arith in
+      let low : first_one (bits_of ws) < 256 = omega (arith, trailing-is 64 w, length_digits 64 w) in
+      rw (found, lt-ltb (first_one (bits_of ws)) 256 low)
 
-  pub lowest-turn : 64 * i + first_one (bits_of (drop i ws)) ≡ first_one (bits_of ws) → length ws ≡ 4 → i < 4 → get_or ws i 0 ≡ 0
+  pub lowest_turn : 64 * i + first_one (bits_of (drop i ws)) ≡ first_one (bits_of ws) → i < length ws → get_or ws i 0 ≡ 0
       → 64 * (i + 1) + first_one (bits_of (drop (i + 1) ws)) ≡ first_one (bits_of ws)
-  lowest-turn e four l z =
+  lowest_turn e l z =
       let w = get_or ws i 0 in
       let none : first_one (digits 64 w) ≡ length (digits 64 w) = rw (length_digits, z) (sym (trailing-is 64 0) ∙ trailing_of_zero 64) in
-      let on : first_one (bits_of (drop i ws)) ≡ 64 + first_one (bits_of (drop (i + 1) ws)) =
-      rw (bits-drop ws i (omega arith), first-append-none _ _ none, length_digits) in
+      let on : first_one (bits_of (drop i ws)) ≡ 64 + first_one (bits_of (drop (i + 1) ws)) = rw (bits-drop ws i l, first-append-none _ _ none, length_digits) in
       omega arith
-
-  pub lowest-end : 64 * i + first_one (bits_of (drop i ws)) ≡ first_one (bits_of ws) → length ws ≡ 4 → i ≤ 4 → 4 ≤ i → 256 ≡ first_one (bits_of ws)
-  unfolding first_one
-  lowest-end e four l m = omega (arith, ap first_one (bits-done ws i (omega arith)))
-
-pub trailing-small : (m n : ℕ) → m ≤ 256 → Fits w64 (m + count_trailing_zeros 64 n)
-trailing-small m n h = record { fits = omega (arith, trailing_le 64 n) }
-
-pub trailing-fits : (n : ℕ) → Fits w64 (count_trailing_zeros 64 n)
-trailing-fits n = record { fits = omega (arith, trailing_le 64 n) }

@@ -1,5 +1,6 @@
 -- The free slots as a list with a place for each slot, 1 where the slot is free and 0 where not, and what is asked of it.
-use Rattle.std.specs.Prelude.{List, [], ◌∷◌, ◌++◌, Bool, ℕ, zero, suc, ◌+◌, ◌/◌, ◌%◌, eqb, get_or}
+use Rattle.std.specs.Prelude.{Option, List, [], ◌∷◌, ◌++◌, Bool, ℕ, zero, suc, ◌+◌, ◌/◌, ◌%◌, eqb, ltb, get_or}
+use Rattle.std.specs.Bool.{then_some}
 
 -- the d lowest binary digits of n, lowest first
 unfoldable pub digits : ℕ → ℕ → List ℕ
@@ -33,3 +34,7 @@ first_one (b ∷ bs) = after b (first_one bs)
 -- the slot of an add, by what was free before it and what is free once it has made room: "then the lowest free slot is used"
 abbrev pub slot_for : List ℕ → List ℕ → ℕ
 slot_for free roomy = first_one roomy
+
+-- a number from 256 on is no slot
+abbrev pub slot_in : ℕ → Option ℕ
+slot_in n = then_some (ltb n 256) n

@@ -1,10 +1,10 @@
 -- What the view says of the free slots, and that it leaves one content of the four words.
-use Rattle.std.specs.Prelude.{◌≡◌, refl, true, false, List, [], ◌∷◌, ◌++◌, ℕ, zero, suc, ◌+◌, ◌/◌, ◌%◌, ◌^◌, ◌≤◌, ◌<◌, length, get_or, set, take, drop}
+use Rattle.std.specs.Prelude.{None, ◌≡◌, refl, true, false, List, [], ◌∷◌, ◌++◌, ℕ, zero, suc, ◌+◌, ◌/◌, ◌%◌, ◌^◌, ◌≤◌, ◌<◌, length, get_or, set, take, drop}
 use Rattle.std.proofs.Common.{sym, ap, ◌∙◌, pow-suc, not-suc-le-zero, le_of_suc-le-suc, arith, eq-eqb, eqb-true, take_at, drop_at, Fits}
 use Rattle.std.proofs.lemmas.Bool.{eqb-false}
 use Rattle.std.specs.Int.{w64}
 use Rattle.slots.specs.declared.Free.{Free}
-use Rattle.slots.specs.Bits.{digits, bits_of, free_at, total, first_one}
+use Rattle.slots.specs.Bits.{digits, bits_of, free_at, total, first_one, slot_in}
 use Rattle.slots.specs.BitLaws.{length_digits, length-bits}
 
 -- ---- a place holds 0 or 1
@@ -89,6 +89,10 @@ unfolding first_one total
 none_free [] h = refl
 none_free (zero ∷ l) h = ap suc (none_free l (omega arith))
 none_free (suc b ∷ l) h = omega arith
+
+-- so that none is the lowest of four words
+pub none_lowest : (n : ℕ) (ws : List ℕ) → n ≡ total (bits_of ws) → n ≡ 0 → length ws ≡ 4 → None ≡ slot_in (first_one (bits_of ws))
+none_lowest n ws c z four = rw (none_free (bits_of ws) (sym c ∙ z), length-bits ws, four)
 
 pub none-counted : (l : List ℕ) → first_one l ≡ length l → total l ≡ 0
 unfolding first_one total

@@ -2,12 +2,23 @@
 #![tactic(auto)]
 
 ghost use Rattle.std.specs.Prelude.{◌≡◌, ◌+◌, ◌<◌, set, replicate};
-ghost use Rattle.slots.specs.Bits.{bits_of, total, first_one, slot_for, free_at};
+ghost use Rattle.lists.specs.Count.{bit};
+ghost use Rattle.slots.specs.Bits.{digits, bits_of, total, first_one, slot_for, free_at, slot_in};
 
 // The free slots of 256: one bit each, set where the slot is free, in four words from the lowest bit up.
 #[derive(Clone, Copy)]
 pub struct Free {
     pub words: [u64; 4],
+}
+
+// The word with one of its bits set, or not set.
+#[tactic(auto, using(crate::specs::BitLaws::bit_set, crate::specs::BitLaws::bit_cleared))]
+fn marked(word: u64, place: usize, free: bool) -> u64
+    requires { place < 64 }
+    ensures { digits 64 result ≡ set (digits 64 word) place (bit free) }
+{
+    let mask = 1u64 << place;
+    if free { word | mask } else { word & !mask }
 }
 
 impl Free {
@@ -16,7 +27,7 @@ impl Free {
         ensures { bits_of result.words ≡ replicate 256 1 }
     {
         Free {
-            words: [0xFFFF_FFFF_FFFF_FFFF; 4],
+            words: [u64::MAX; 4],
         }
     }
 
@@ -24,80 +35,72 @@ impl Free {
     pub fn count(self) -> u32
         ensures { result ≡ total (bits_of self.words) }
     {
-        let ws = self.words;
-        let mut n = 0;
-        let mut word = 0;
-        while word < 4 {
-            n += u64::count_ones(ws[word]);
-            word += 1;
+        let mut free = 0;
+        for word in self.words {
+            free += word.count_ones();
         }
-        n
+        free
     }
 
-    // The lowest free slot, and 256 where none is free.
-    pub fn lowest(self) -> usize
-        ensures { result ≡ first_one (bits_of self.words) }
+    // The lowest free slot.
+    #[tactic(auto, using(crate::specs::BitLaws::lowest_here, crate::specs::BitLaws::lowest_turn))]
+    pub fn lowest(self) -> Option<usize>
+        ensures { result ≡ slot_in (first_one (bits_of self.words)) }
     {
-        let ws = self.words;
-        let mut i = 0;
-        while i < 4 {
-            let w = ws[i];
-            if w != 0 {
-                return i * 64 + (u64::trailing_zeros(w) as usize);
+        for (at, word) in self.words.iter().enumerate() {
+            if *word != 0 {
+                return Some(at * 64 + word.trailing_zeros() as usize);
             }
-            i += 1;
         }
-        256
+        None
     }
 
-    // The slot of an add: these were free before it, and `roomy` are once it has made room. 256 where none is.
-    pub fn slot_for(self, roomy: Free) -> usize
-        ensures { result ≡ slot_for (bits_of self.words) (bits_of roomy.words) }
+    // The slot of an add: these were free before it, and `roomy` are once it has made room. The number free says whether there is one.
+    #[tactic(auto, using(crate::specs::FreeLaws::none_lowest))]
+    pub fn slot_for(self, roomy: Free) -> Option<usize>
+        ensures { result ≡ slot_in (slot_for (bits_of self.words) (bits_of roomy.words)) }
     {
-        roomy.lowest()
+        if roomy.count() == 0 {
+            None
+        } else {
+            roomy.lowest()
+        }
     }
 
     // Whether the slot is free. A number past the last slot is not.
+    #[tactic(auto, using(crate::specs::BitLaws::free_here, crate::specs::BitLaws::free_past))]
     pub fn is_free(self, slot: usize) -> bool
         ensures { result ≡ free_at (bits_of self.words) slot }
     {
-        if 256 <= slot {
-            return false;
-        }
-        let ws = self.words;
-        let w = ws[slot / 64];
-        (w >> (slot % 64)) % 2 == 1
+        let at = slot / 64;
+        at < self.words.len() && (self.words[at] >> (slot % 64)) % 2 == 1
     }
 
-    // The slot is not free any more. A number past the last slot changes nothing.
+    // The slot is free, or it is not any more. A number past the last slot changes nothing. (By index: no clause of std says what a slice ends
+    // as after `get_mut`.)
+    #[tactic(auto, using(crate::specs::BitLaws::put, crate::specs::BitLaws::out_of_range))]
+    fn with(self, slot: usize, free: bool) -> Self
+        ensures { bits_of result.words ≡ set (bits_of self.words) slot (bit free) }
+    {
+        let mut words = self.words;
+        let at = slot / 64;
+        if at < words.len() {
+            words[at] = marked(words[at], slot % 64, free);
+        }
+        Free { words }
+    }
+
+    // The slot is not free any more.
     pub fn take(self, slot: usize) -> Self
         ensures { bits_of result.words ≡ set (bits_of self.words) slot 0 }
     {
-        let mut out = self;
-        if slot < 256 {
-            let at = slot / 64;
-            let bit = slot % 64;
-            let w = out.words[at];
-            if (w >> bit) % 2 == 1 {
-                out.words[at] = w - (1u64 << bit);
-            }
-        }
-        out
+        self.with(slot, false)
     }
 
-    // The slot is free again. A number past the last slot changes nothing.
+    // The slot is free again.
     pub fn give(self, slot: usize) -> Self
         ensures { bits_of result.words ≡ set (bits_of self.words) slot 1 }
     {
-        let mut out = self;
-        if slot < 256 {
-            let at = slot / 64;
-            let bit = slot % 64;
-            let w = out.words[at];
-            if (w >> bit) % 2 == 0 {
-                out.words[at] = w + (1u64 << bit);
-            }
-        }
-        out
+        self.with(slot, true)
     }
 }

@@ -3,7 +3,7 @@ use Rattle.std.specs.Prelude.{◌≡◌, ℕ, ◌*◌, ◌≤◌, ◌<◌, lengt
 use Rattle.std.proofs.Math.Option.{Option, some, none}
 use Rattle.sampleinfo.specs.Counts.{total}
 use Rattle.sampleinfo.specs.Lifecycle.{counts_of}
-use Rattle.store.specs.Store.{Inst, Store, no_inst}
+use Rattle.store.specs.Store.{Store, no_inst}
 
 -- the number of cells of an instance: 0 stands for no keep count
 abbrev pub depth_of : Option ℕ → ℕ

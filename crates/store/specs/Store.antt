@@ -1,20 +1,15 @@
 -- The cache on numbers alone: what the header and the index say, and what each call makes of it. A slot's record is not here.
-use Rattle.std.specs.Prelude.{Bool, ◌&&◌, not, cond, List, [], ◌∷◌, ◌++◌, ℕ, zero, suc, ◌+◌, length, get_or, set, drop, replicate, ltb, leb, eqb}
+use Rattle.std.specs.Prelude.{Bool, ◌&&◌, not, cond, List, [], ◌∷◌, ◌++◌, ℕ, zero, suc, ◌+◌, length, get_or, set, drop, replicate, ltb, leb, eqb, Some, None}
 use Rattle.std.proofs.Math.Option.{Option, some, none}
+use Rattle.std.specs.Prelude as rust
 use Rattle.lists.specs.Blocks.{put_at}
 use Rattle.slots.specs.Bits.{first_one, slot_for, free_at}
-use Rattle.keys.specs.Keys.{key_of}
-use Rattle.keys.specs.declared.Last.{Last}
-use Rattle.keys.specs.declared.Last.TheVariants as last
-use Rattle.keys.specs.declared.Issued.{Issued}
-use Rattle.keys.specs.declared.Issued.TheVariants as issued
+use Rattle.keys.specs.Keys.{Last, Issued, key_of}
 use Rattle.sampleinfo.specs.Lifecycle.{meta, state_of, counts_of, new_instance, lifecycle_of, no_writers_of}
 use Rattle.sampleinfo.specs.declared.InstanceState.{InstanceState}
 use Rattle.sampleinfo.specs.declared.InstanceState.TheVariants.{Alive}
 use Rattle.sampleinfo.specs.declared.NotAliveGenerationCounts.{NotAliveGenerationCounts}
 use Rattle.sampleinfo.specs.declared.InstanceMetaData.{InstanceMetaData}
-use Rattle.sampleinfo.specs.declared.Stepped.{Stepped}
-use Rattle.sampleinfo.specs.declared.Stepped.TheVariants as stepped
 use Rattle.model.specs.Pairs.{Pair}
 use Rattle.model.specs.Model.{least}
 
@@ -96,7 +91,7 @@ filling s at y key old slot = record {
   then = record {
     keep = s.keep;
     room = s.room;
-    last = last.Key key;
+    last = Some key;
     newest = slot;
     insts = put_at at (record { name = y.name; meta = y.meta; cells = moved_on s.keep y.cells slot }) s.insts;
     free = set (set s.free old 1) slot 0;
@@ -113,9 +108,9 @@ placing s at y key =
     let slot : ℕ = slot_for s.free (set s.free old 1) in
     cond (ltb slot 256) (filling s at y key old slot) (declined 5 s)
 
-abbrev pub living : Store → ℕ → Inst → ℕ → Stepped → Step
-living s at y key stepped.Refused = declined 7 s
-living s at y key (stepped.Now j) = placing s at (with_meta y j) key
+abbrev pub living : Store → ℕ → Inst → ℕ → rust.Option InstanceMetaData → Step
+living s at y key None = declined 7 s
+living s at y key (Some j) = placing s at (with_meta y j) key
 
 unfoldable pub keying : Store → Wanted → ℕ → Step
 unfolding place_of placing lifecycle_of
@@ -125,8 +120,8 @@ keying s a key =
     cond (leb (length s.insts) at && leb s.room (length s.insts)) (declined 4 s) (living s at old key (lifecycle_of old.meta a.state))
 
 abbrev pub issuing : Store → Wanted → Issued → Step
-issuing s a issued.Refused = declined 6 s
-issuing s a (issued.Key key) = keying s a key
+issuing s a None = declined 6 s
+issuing s a (Some key) = keying s a key
 
 unfoldable pub adding : Store → Wanted → Step
 unfolding keying key_of

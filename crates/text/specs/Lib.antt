@@ -1,4 +1,3 @@
 pub mod Text
-pub mod IntLaws
 pub mod NumberLaws
 pub mod PutLaws

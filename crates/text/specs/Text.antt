@@ -1,6 +1,8 @@
 -- Numbers as decimal digits in ASCII, and a text laid into a buffer.
-use Rattle.std.specs.Prelude.{Bool, true, false, cond, List, [], ◌∷◌, ◌++◌, ℕ, zero, suc, ◌+◌, ◌-◌, ◌*◌, ◌/◌, ◌%◌, ltb, leb, length, take, drop, replicate, ℤ, pos, negsuc, nat_abs}
-use Rattle.text.specs.declared.Number.{Number}
+use Rattle.std.specs.Prelude.{◌≡◌, Bool, true, false, cond, List, [], ◌∷◌, ◌++◌, ℕ, zero, suc, ◌+◌, ◌-◌, ◌*◌, ◌/◌, ◌%◌, ltb, leb, length, take, drop, ℤ, pos, negsuc, nat_abs}
+use Rattle.text.specs.declared.Page.{Page}
+use Rattle.text.specs.declared.Word.{Word}
+use Rattle.text.specs.declared.Word.TheVariants as word
 
 abbrev pub is_neg : ℤ → Bool
 is_neg (pos n) = false
@@ -23,13 +25,11 @@ unfoldable pub signed_of : ℤ → List ℕ
 unfolding decimal_of
 signed_of z = cond (is_neg z) (45 ∷ decimal_of (nat_abs z)) (decimal_of (nat_abs z))
 
--- a text of at most 21 bytes at the end of 21
-unfoldable pub number_of : List ℕ → Number
-number_of s = record { bytes = replicate (21 - length s) 0 ++ s; from = 21 - length s }
-
--- the text in it
-abbrev pub text_of : Number → List ℕ
-text_of t = drop t.from t.bytes
+-- what a word reads as
+abbrev pub word_text : Word → List ℕ
+word_text (word.Text s) = s.now
+word_text (word.Number n) = decimal_of n
+word_text (word.Signed z) = signed_of z
 
 -- the number that a text of digits reads, behind the digits of n
 unfoldable pub read_onto : ℕ → List ℕ → ℕ
@@ -48,3 +48,9 @@ written l at s = cond (room_for l at s) (take at l ++ s ++ drop (at + length s) 
 -- the place after s; where there is no room, at
 unfoldable pub place_after : List ℕ → ℕ → List ℕ → ℕ
 place_after l at s = cond (room_for l at s) (at + length s) at
+
+-- what a text put on a page leaves: the text laid in, and the place after it, in the same lent bytes
+pub record Puts (old : Page) (s : List ℕ) (new : Page) : Type 0 where
+  pub bytes : new.bytes.now ≡ written old.bytes.now old.at s
+  pub place : new.at ≡ place_after old.bytes.now old.at s
+  pub same : new.bytes.ghost_name ≡ old.bytes.ghost_name

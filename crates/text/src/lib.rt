@@ -1,116 +1,57 @@
-// Numbers as decimal text, at the end of a small array, and bytes laid into a lent buffer.
+// Words, each a text or a number in decimal digits, laid into a lent buffer of bytes.
 #![tactic(auto)]
 
-ghost use Rattle.std.specs.Prelude.{◌≡◌, ◌∷◌, [], ◌+◌, leb, nat_abs};
-ghost use Rattle.text.specs.Text.{is_neg, decimal_of, signed_of, number_of, text_of, written, place_after};
+ghost use Rattle.std.specs.Prelude.{◌≡◌};
+ghost use Rattle.text.specs.Text.{word_text, Puts};
 
-// The text of a number, at the end of 21 bytes from place from on; 0 before it.
+// A number has no leading zero, and a minus sign where it is below 0.
 #[derive(Clone, Copy)]
-pub struct Number {
-    pub bytes: [u8; 21],
-    pub from: usize,
+pub enum Word<'a> {
+    Text(&'a [u8]),
+    Number(u64),
+    Signed(i64),
 }
 
-// In decimal digits, with no leading zero.
-pub fn decimal(n: u64) -> Number
-    ensures { result ≡ number_of (decimal_of n) }
-{
-    let mut bytes = [0u8; 21];
-    let mut rest = n;
-    let mut i = 20;
-    while 10 <= rest {
-        bytes[i] = 48 + ((rest % 10) as u8);
-        rest = rest / 10;
-        i -= 1;
-    }
-    bytes[i] = 48 + (rest as u8);
-    Number {
-        bytes: bytes,
-        from: i,
-    }
+// Lent bytes, and the place where the next one goes.
+#[derive(Drop)]
+pub struct Page<'a> {
+    pub bytes: &'a mut [u8],
+    pub at: usize,
 }
 
-fn negative(x: i64) -> bool
-    ensures { result ≡ is_neg x }
-{
-    x < 0
-}
-
-// The distance from 0, also of the least number.
-fn size(x: i64) -> u64
-    ensures { result ≡ nat_abs x }
-{
-    if x < 0 {
-        return ((-(x + 1)) as u64) + 1;
-    }
-    x as u64
-}
-
-// In decimal digits, with a minus sign where it is below 0.
-pub fn signed(x: i64) -> Number
-    ensures { result ≡ number_of (signed_of x) }
-{
-    let t = decimal(size(x));
-    if negative(x) {
-        let at = t.from - 1;
-        let mut bytes = t.bytes;
-        bytes[at] = 45;
-        return Number {
+impl<'a> Page<'a> {
+    // From place 0 on.
+    pub fn new(bytes: &'a mut [u8]) -> Page<'a>
+        ensures bytes { result.bytes.now ≡ bytes.old }
+        ensures same { result.bytes.ghost_name ≡ bytes.entry.ghost_name }
+        ensures place { result.at ≡ 0 }
+    {
+        Page {
             bytes: bytes,
-            from: at,
-        };
-    }
-    t
-}
-
-// Whether a text of this length has room in a buffer of len bytes from place at on.
-fn has_room(len: usize, at: usize, long: usize) -> bool
-    ensures { result ≡ leb (at + long) len }
-{
-    if len < at {
-        return false;
-    }
-    long <= len - at
-}
-
-// The text goes in at place at, and the answer is the place after it; where there is no room for all of it, nothing is done,
-// and the answer is at.
-pub fn put_bytes(buf: &mut [u8], at: usize, text: &[u8]) -> usize
-    ensures value { result ≡ place_after buf.old at text.now }
-    ensures buf_after { buf.new ≡ written buf.old at text.now }
-{
-    if has_room(buf.len(), at, text.len()) {
-        let mut j = 0;
-        while j < text.len() {
-            buf[at + j] = text[j];
-            j += 1;
+            at: 0,
         }
-        return at + text.len();
     }
-    at
-}
 
-// The same for one byte.
-pub fn put_byte(buf: &mut [u8], at: usize, byte: u8) -> usize
-    ensures value { result ≡ place_after buf.old at (byte ∷ []) }
-    ensures buf_after { buf.new ≡ written buf.old at (byte ∷ []) }
-{
-    if at < buf.len() {
-        buf[at] = byte;
-        return at + 1;
+    // The text goes in, and the place is the one after it; where there is no room for all of it, nothing is done.
+    pub fn put_bytes(&mut self, text: &[u8])
+        ensures { Puts self.old text.now self.new }
+    {
+        let end = self.at.saturating_add(text.len());
+        if end <= self.bytes.len() {
+            self.bytes[self.at..end].copy_from_slice(text);
+            self.at = end;
+        }
     }
-    at
-}
 
-// The same for a number.
-pub fn put(buf: &mut [u8], at: usize, number: Number) -> usize
-    ensures value { result ≡ place_after buf.old at (text_of number) }
-    ensures buf_after { buf.new ≡ written buf.old at (text_of number) }
-{
-    let bytes = number.bytes;
-    let from = number.from;
-    if 21 < from {
-        return at;
+    // The same for a word. Not by `write!`: no clause of std says that it is Ok where there is room.
+    pub fn put(&mut self, word: Word)
+        ensures { Puts self.old (word_text word.entry) self.new }
+    {
+        let mut digits = itoa::Buffer::new();
+        match word {
+            Word::Text(text) => self.put_bytes(text),
+            Word::Number(n) => self.put_bytes(digits.format(n).as_bytes()),
+            Word::Signed(x) => self.put_bytes(digits.format(x).as_bytes()),
+        }
     }
-    put_bytes(buf, at, &bytes[from..])
 }

@@ -32,7 +32,7 @@ range-keeps m s t room = go (leb (length (within s t m.entries)) room)
 
 pub called-meets : {c : Call} {x y : Memory} {a : Seen} → Called c x a y → Meets c x a y
 called-meets (update-keep-limits κs h ws history most r f) m g t =
-    let s : Raised (step m (update (given history most))) r = f.stepped m t.head in
+    let s : Raised (step m (update (given history most))) h r = f.stepped m t.head in
     (s.answer, record { head = s.head; words = t.words ∙ ap words_of (sym (update-keeps m (given history most))) })
 called-meets (add-change κs h ws ws' time x r f) m g t = ((f.stepped m g t).answer, (f.stepped m g t).tied)
 called-meets (remove-changes-before κs h ws ws' time r f) m g t = ((f.stepped m g t).answer, (f.stepped m g t).tied)

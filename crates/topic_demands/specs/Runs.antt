@@ -9,13 +9,13 @@ use Rattle.model.specs.Topic.{Topic, Entry, Limits, Call, update, add, remove_be
 use Rattle.model.specs.TopicPromises.{run, key_in, Rises, keys_of, times, Higher, TopicPromises}
 use Rattle.changes.specs.Places.{entries_in}
 use Rattle.changes.specs.declared.CacheChange.{CacheChange}
-use Rattle.dds_cache.specs.Header.{given, limits_of, Tied, Fit, update_of, added_of, found_of, change_of, Shown}
+use Rattle.dds_cache.specs.Header.{given, limits_of, Tied, Fit, update_of, outcome_of, found_of, after_update, after_add, change_of, Shown}
 use Rattle.dds_cache.specs.declared.History.{History}
 use Rattle.dds_cache.specs.declared.TopicCache.{TopicCache}
-use Rattle.dds_cache.specs.declared.Created.TheVariants as created
-use Rattle.dds_cache.specs.declared.Updated.{Updated}
+use Rattle.std.specs.declared.result.Result.{Result}
+use Rattle.std.specs.declared.result.Result.TheVariants.{Ok}
+use Rattle.refusals.specs.declared.Refusal.{Refusal}
 use Rattle.dds_cache.specs.declared.Outcome.{Outcome}
-use Rattle.dds_cache.specs.declared.Found.{Found}
 use Rattle.dds_cache.proofs.TopicCache.new.Reads as of-new
 use Rattle.dds_cache.proofs.TopicCache.update_keep_limits.Reads as of-update
 use Rattle.dds_cache.proofs.TopicCache.add_change.Reads as of-add
@@ -42,7 +42,7 @@ entries_of x = entries_in x.head.held 0 x.words
 -- what the caller sees of an answer: its number and values; of a range, the lent results before and after too
 pub data Seen : Type 0 where
   said : Answer → Seen
-  listed : Found → List ℕ → List ℕ → Seen
+  listed : Result ℕ Refusal → List ℕ → List ℕ → Seen
 
 abbrev pub Means : Seen → Step → Type 0
 Means (said a) s = a ≡ s.answer
@@ -68,19 +68,19 @@ keys_seen (a ∷ ss) = key_in (answer_in a) ++ keys_seen ss
 
 pub data Begun : Limits → Memory → Type 0 where
   new : (κs : Lfts 1) (history : History) (most : ℕ) (ws ws' : MutBor (List ℕ)) (h : TopicCache)
-      → of-new.Learnt κs (history, (most, (ws, tt))) (created.Cache h) (history, (most, (ws', tt))) → Begun (given history most) (holding h ws'.now)
+      → of-new.Learnt κs (history, (most, (ws, tt))) (Ok h) (history, (most, (ws', tt))) → Begun (given history most) (holding h ws'.now)
 
 pub data Called : Call → Memory → Seen → Memory → Type 0 where
-  update-keep-limits : (κs : Lfts 0) (h : TopicCache) (ws : List ℕ) (history : History) (most : ℕ) (r : Updated)
+  update-keep-limits : (κs : Lfts 0) (h : TopicCache) (ws : List ℕ) (history : History) (most : ℕ) (r : Result TopicCache Refusal)
       → of-update.Learnt κs (h, (history, (most, tt))) r (h, (history, (most, tt)))
-      → Called (update (given history most)) (holding h ws) (said (update_of r.answer)) (holding r.cache ws)
-  add-change : (κs : Lfts 1) (h : TopicCache) (ws ws' : MutBor (List ℕ)) (time : ℕ) (x : CacheChange) (r : Outcome)
+      → Called (update (given history most)) (holding h ws) (said (update_of r)) (holding (after_update h r) ws)
+  add-change : (κs : Lfts 1) (h : TopicCache) (ws ws' : MutBor (List ℕ)) (time : ℕ) (x : CacheChange) (r : Result Outcome Refusal)
       → of-add.Learnt κs (h, (ws, (time, (x, tt)))) r (h, (ws', (time, (x, tt))))
-      → Called (add (change_of time x)) (holding h ws.now) (said (added_of r.answer)) (holding r.cache ws'.now)
+      → Called (add (change_of time x)) (holding h ws.now) (said (outcome_of r)) (holding (after_add h r) ws'.now)
   remove-changes-before : (κs : Lfts 1) (h : TopicCache) (ws ws' : MutBor (List ℕ)) (time : ℕ) (r : TopicCache)
       → of-remove.Learnt κs (h, (ws, (time, tt))) r (h, (ws', (time, tt)))
       → Called (remove_before time) (holding h ws.now) (said ok) (holding r ws'.now)
-  get-changes-in-range : (κs : Lfts 2) (h : TopicCache) (ws : Bor (List ℕ)) (start end : ℕ) (out out' : MutBor (List ℕ)) (r : Found)
+  get-changes-in-range : (κs : Lfts 2) (h : TopicCache) (ws : Bor (List ℕ)) (start end : ℕ) (out out' : MutBor (List ℕ)) (r : Result ℕ Refusal)
       → of_range.Learnt κs (h, (ws, (start, (end, (out, tt))))) r (h, (ws, (start, (end, (out', tt)))))
       → Called (range start end (length out.now / 6)) (holding h ws.now) (listed r out.now out'.now) (holding h ws.now)
 

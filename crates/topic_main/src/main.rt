@@ -2,19 +2,18 @@
 // output. It owns the words of the cache, and answers each record before it waits for the next.
 #![tactic(auto)]
 
-ghost use Rattle.std.specs.Prelude.{◌≤◌};
-
 use changes::{CacheChange, Kept};
-use dds_cache::{Added, Created, Found, KeepLimits, TopicCache, Update};
-use frames::{Piece, Source};
+use dds_cache::{Added, TopicCache};
+use frames::Stop;
 use records::Request;
-use std::io;
+use refusals::Refusal;
 use std::io::{Stderr, Stdin, Stdout};
+use text::{Page, Word};
 use topic_records::Op;
 
-const SPACE: u8 = 32;
+const SPACE: Word = Word::Text(b" ");
 
-const NEWLINE: u8 = 10;
+const NEWLINE: Word = Word::Text(b"\n");
 
 // Where lines go, and where what went wrong is told.
 #[derive(Clone, Copy)]
@@ -23,142 +22,96 @@ struct Streams {
     errors: Stderr,
 }
 
-// The cache is asked only once a new was accepted.
-#[derive(Clone, Copy)]
-struct Session {
-    cache: TopicCache,
-    ready: bool,
-}
-
 // ---- printing
-
-// The bytes that fit a buffer.
-fn clamp(n: usize, most: usize) -> usize
-    ensures { result ≤ most }
-{
-    if n < most {
-        return n;
-    }
-    most
-}
 
 fn print(streams: Streams, text: &[u8]) {
     let done = streams.output.write_all(text);
     frames::checked(&streams.errors, done, b"topic_main: write");
 }
 
-// The front of a line buffer, in one write.
-fn print_front(streams: Streams, line: &[u8], size: usize) {
-    let n = clamp(size, line.len());
-    print(streams, &line[..n]);
+// The lines of a page, in one write.
+fn print_page(streams: Streams, page: &Page) {
+    let size = page.at.min(page.bytes.len());
+    print(streams, &page.bytes[..size]);
 }
 
-fn put_word(line: &mut [u8], at: usize, text: &[u8], end: u8) -> usize {
-    let next = text::put_bytes(line, at, text);
-    text::put_byte(line, next, end)
+fn put_words(page: &mut Page, words: &[Word]) {
+    for word in words {
+        page.put(*word);
+    }
 }
 
-fn put_number(line: &mut [u8], at: usize, n: u64, end: u8) -> usize {
-    let next = text::put(line, at, text::decimal(n));
-    text::put_byte(line, next, end)
-}
-
-// A line of a word and a number, at the front.
-fn put_named(line: &mut [u8], text: &[u8], n: u64) -> usize {
-    let next = put_word(line, 0, text, SPACE);
-    put_number(line, next, n, NEWLINE)
+// A line of a word and a number.
+fn put_named(page: &mut Page, text: &[u8], n: u64) {
+    put_words(page, &[Word::Text(text), SPACE, Word::Number(n), NEWLINE]);
 }
 
 fn print_named(streams: Streams, text: &[u8], n: u64) {
-    let mut line = [0u8; 32];
-    let size = put_named(&mut line, text, n);
-    print_front(streams, &line, size);
+    let mut line = [0; 32];
+    let mut page = Page::new(&mut line);
+    put_named(&mut page, text, n);
+    print_page(streams, &page);
 }
 
 fn ok(streams: Streams) {
     print(streams, b"ok\n");
 }
 
-fn refused(streams: Streams, n: u64) {
-    print_named(streams, b"refused", n);
+fn refused(streams: Streams, why: Refusal) {
+    print_named(streams, b"refused", why.number());
 }
 
-// Sequence number, handle, length: the end of an entry's line.
-fn put_change(line: &mut [u8], at: usize, change: CacheChange) -> usize {
-    let a = put_number(line, at, change.sequence_number, SPACE);
-    let b = put_number(line, a, change.handle as u64, SPACE);
-    put_number(line, b, change.payload_size as u64, NEWLINE)
-}
-
-// Key and writer stand in front of it.
-fn put_entry(line: &mut [u8], at: usize, kept: Kept) -> usize {
+// Key, writer, sequence number, handle, length: an entry's line.
+fn put_entry(page: &mut Page, kept: Kept) {
     let change = kept.change;
-    let guid = change.writer_guid;
-    let writer = topic_records::writer_text(guid);
-    let a = put_number(line, at, kept.key, SPACE);
-    let b = put_word(line, a, &writer, SPACE);
-    put_change(line, b, change)
+    let writer = topic_records::writer_text(change.writer_guid);
+    let words = [
+        Word::Number(kept.key),
+        SPACE,
+        Word::Text(&writer),
+        SPACE,
+        Word::Number(change.sequence_number),
+        SPACE,
+        Word::Number(change.handle as u64),
+        SPACE,
+        Word::Number(change.payload_size as u64),
+        NEWLINE,
+    ];
+    put_words(page, &words);
 }
 
 // How many entries there are, and a line for each.
-fn put_entries(line: &mut [u8], res: &[u64], n: usize) -> usize {
-    let mut at = put_named(line, b"entries", n as u64);
-    let mut p = 0;
-    while p < n {
-        at = put_entry(line, at, changes::kept_at(res, p));
-        p += 1;
-    }
-    at
-}
-
-// ---- calls
-
-fn with_cache(cache: TopicCache) -> Session {
-    Session {
-        cache: cache,
-        ready: true,
+fn put_entries(page: &mut Page, res: &[u64], n: usize) {
+    put_named(page, b"entries", n as u64);
+    for p in 0..n {
+        put_entry(page, changes::kept_at(res, p));
     }
 }
 
-// A new starts afresh; a refused one leaves the session as it was.
+// ---- calls: each prints its answer and gives the cache that stands; what is refused prints nothing here
+
 fn do_new(
     streams: Streams,
-    s: Session,
     words: &mut [u64; CacheChange::TABLE],
     rec: &[u8],
-) -> Session {
+) -> Result<TopicCache, Refusal> {
     let history = topic_records::history_in(rec);
-    match TopicCache::new(history, topic_records::most_in(rec), words) {
-        Created::Cache(cache) => {
-            ok(streams);
-            with_cache(cache)
-        }
-        Created::OutOfBounds => {
-            refused(streams, 2);
-            s
-        }
-    }
+    let cache = TopicCache::new(history, topic_records::most_in(rec), words)?;
+    ok(streams);
+    Ok(cache)
 }
 
-fn do_update(streams: Streams, cache: TopicCache, rec: &[u8]) -> TopicCache {
-    let updated = cache.update_keep_limits(
-        topic_records::history_in(rec),
-        topic_records::most_in(rec),
-    );
-    let answer = updated.answer;
-    match answer {
-        Update::Raised => ok(streams),
-        Update::OutOfBounds => refused(streams, 2),
-    }
-    updated.cache
+fn do_update(streams: Streams, cache: TopicCache, rec: &[u8]) -> Result<TopicCache, Refusal> {
+    let history = topic_records::history_in(rec);
+    let updated = cache.update_keep_limits(history, topic_records::most_in(rec))?;
+    ok(streams);
+    Ok(updated)
 }
 
 fn print_added(streams: Streams, answer: Added) {
     match answer {
         Added::Key(key) => print_named(streams, b"key", key),
         Added::HeldAlready => print(streams, b"held already\n"),
-        Added::BadSequenceNumber => refused(streams, 1),
-        Added::NoLaterKey => refused(streams, 6),
     }
 }
 
@@ -167,15 +120,11 @@ fn do_add(
     cache: TopicCache,
     words: &mut [u64; CacheChange::TABLE],
     rec: &[u8],
-) -> TopicCache {
-    let outcome = cache.add_change(
-        words,
-        records::u64_at(rec, 33),
-        topic_records::change_of(rec),
-    );
-    let answer = outcome.answer;
-    print_added(streams, answer);
-    outcome.cache
+) -> Result<TopicCache, Refusal> {
+    let time = records::u64_at(rec, 33);
+    let outcome = cache.add_change(words, time, topic_records::change_of(rec))?;
+    print_added(streams, outcome.answer);
+    Ok(outcome.cache)
 }
 
 fn do_remove(
@@ -189,109 +138,105 @@ fn do_remove(
     then
 }
 
-// The line buffer holds the longest answer: 384 entries of at most 97 bytes.
+// The page holds the longest answer: 384 entries of at most 97 bytes.
 fn print_entries(streams: Streams, res: &[u64], n: usize) {
-    let mut line = [0u8; 40960];
-    let size = put_entries(&mut line, res, n);
-    print_front(streams, &line, size);
+    let mut lines = [0; 40960];
+    let mut page = Page::new(&mut lines);
+    put_entries(&mut page, res, n);
+    print_page(streams, &page);
 }
 
 // The results have room for every place, so refusal 9 does not come.
-fn do_range(streams: Streams, cache: TopicCache, words: &[u64; CacheChange::TABLE], rec: &[u8]) {
-    let mut res = [0u64; CacheChange::TABLE];
+fn do_range(
+    streams: Streams,
+    cache: TopicCache,
+    words: &[u64; CacheChange::TABLE],
+    rec: &[u8],
+) -> Result<TopicCache, Refusal> {
+    let mut res = [0; CacheChange::TABLE];
     let start = records::u64_at(rec, 1);
     let end = records::u64_at(rec, 9);
-    match cache.get_changes_in_range_best_effort(words, start, end, &mut res) {
-        Found::Changes(n) => print_entries(streams, &res, n),
-        Found::TooShort => refused(streams, 9),
-    }
+    let n = cache.get_changes_in_range_best_effort(words, start, end, &mut res)?;
+    print_entries(streams, &res, n);
+    Ok(cache)
 }
 
-// ---- a session
+// ---- a session: its cache, once a new was accepted
 
-fn fresh() -> Session {
-    Session {
-        cache: TopicCache {
-            limits: KeepLimits::default_limits(),
-            last_added_instant: keys::topic(),
-            held: 0,
-        },
-        ready: false,
-    }
-}
-
-fn respond(
+// The cache that a record leaves. Only a new comes where there is none.
+fn call(
     streams: Streams,
-    s: Session,
+    s: Option<TopicCache>,
     words: &mut [u64; CacheChange::TABLE],
     rec: &[u8],
-) -> Session {
-    let op = topic_records::op_of(rec);
-    let n = op.refusal(s.ready);
-    if n != 0 {
-        refused(streams, n);
-        return s;
-    }
-    let cache = s.cache;
+) -> Result<TopicCache, Refusal> {
+    let op = topic_records::op_of(rec)?;
+    op.refusal(s.is_some())?;
+    let Some(cache) = s else {
+        return do_new(streams, words, rec);
+    };
     match op {
-        Op::New => do_new(streams, s, words, rec),
-        Op::Update => with_cache(do_update(streams, cache, rec)),
-        Op::Add => with_cache(do_add(streams, cache, words, rec)),
-        Op::RemoveBefore => with_cache(do_remove(streams, cache, words, rec)),
-        Op::Range => {
-            do_range(streams, cache, words, rec);
+        Op::New => do_new(streams, words, rec),
+        Op::Update => do_update(streams, cache, rec),
+        Op::Add => do_add(streams, cache, words, rec),
+        Op::RemoveBefore => Ok(do_remove(streams, cache, words, rec)),
+        Op::Range => do_range(streams, cache, words, rec),
+    }
+}
+
+// A refused record leaves the session as it was.
+fn respond(
+    streams: Streams,
+    s: Option<TopicCache>,
+    words: &mut [u64; CacheChange::TABLE],
+    rec: &[u8],
+) -> Option<TopicCache> {
+    match call(streams, s, words, rec) {
+        Ok(cache) => Some(cache),
+        Err(why) => {
+            refused(streams, why);
             s
         }
-        Op::Malformed => s,
     }
 }
 
 // ---- the input
 
-// A wrong version, or a record that is cut off.
-fn cut_off(streams: Streams) {
-    refused(streams, 1);
-}
-
-// No whole piece of the input came: its end, a cut-off piece, or a failed read.
-fn over(streams: Streams, piece: Piece, last: io::Result<()>) {
-    if piece.cut {
-        cut_off(streams);
+// No whole piece of the input came: its end, a wrong version or a record that is cut off, or a failed read.
+fn over(streams: Streams, why: Stop) {
+    match why {
+        Stop::Over => {}
+        Stop::Cut => refused(streams, Refusal::Malformed),
+        Stop::Failed(why) => {
+            frames::checked(&streams.errors, Err(why), b"topic_main: read");
+        }
     }
-    if piece.failed {
-        frames::checked(&streams.errors, last, b"topic_main: read");
-    }
-}
-
-#[derive(Clone, Copy)]
-struct After {
-    session: Session,
-    go: bool,
 }
 
 // One record: read whole and answered.
 fn one_record(
     streams: Streams,
-    input: &mut Source<Stdin>,
-    s: Session,
+    input: &mut Stdin,
+    s: Option<TopicCache>,
     words: &mut [u64; CacheChange::TABLE],
     two: &mut [u8],
     rec: &mut [u8],
-) -> After {
-    let came = frames::next_record(input, two, rec);
-    let piece = came.piece;
-    if !piece.go {
-        over(streams, piece, input.last);
-        return After {
-            session: s,
-            go: false,
-        };
+) -> Result<Option<TopicCache>, Stop> {
+    let n = frames::next_record(input, two, rec)?;
+    Ok(respond(streams, s, words, &rec[..n]))
+}
+
+// The version byte, and then each record.
+fn all_records(streams: Streams, input: &mut Stdin) -> Result<(), Stop> {
+    frames::next_version(input, &mut [0; 1])?;
+    let mut words = [0; CacheChange::TABLE];
+    let mut two = [0; 2];
+    let mut rec = [0; Request::LONGEST];
+    let mut s = None;
+    for _ in 0..u64::MAX {
+        s = one_record(streams, input, s, &mut words, &mut two, &mut rec)?;
     }
-    let n = came.size;
-    After {
-        session: respond(streams, s, words, &rec[..n]),
-        go: true,
-    }
+    Ok(())
 }
 
 fn main(rt: HostRuntime) {
@@ -299,24 +244,8 @@ fn main(rt: HostRuntime) {
         output: rt.stdout(),
         errors: rt.stderr(),
     };
-    let mut input = Source::new(rt.stdin());
-    let mut one = [0u8; 1];
-    let version = frames::next_version(&mut input, &mut one);
-    if !version.go {
-        over(streams, version, input.last);
-        return;
-    }
-    let mut words = [0u64; CacheChange::TABLE];
-    let mut two = [0u8; 2];
-    let mut rec = [0u8; Request::LONGEST];
-    let mut s = fresh();
-    let mut turns = u64::MAX;
-    while turns > 0 {
-        let r = one_record(streams, &mut input, s, &mut words, &mut two, &mut rec);
-        s = r.session;
-        if !r.go {
-            return;
-        }
-        turns -= 1;
+    let mut input = rt.stdin();
+    if let Err(why) = all_records(streams, &mut input) {
+        over(streams, why);
     }
 }

@@ -2,11 +2,12 @@
 // asks for; and a writer as digits.
 #![tactic(auto)]
 
-ghost use Rattle.std.specs.Prelude.{◌≡◌, ◌/◌, ◌%◌, ◌<◌};
-ghost use Rattle.topic_records.specs.Format.{digit_of, hex_text, change_in, history_asked, most_asked, history_in, most_in, tags_fit, op_in, sized_op, limits_op, sequence_in, add_op, ten_unless, refusal_for};
+ghost use Rattle.std.specs.Prelude.{◌≡◌, Ok};
+ghost use Rattle.topic_records.specs.Format.{hex_text, change_in, history_asked, most_asked, history_in, most_in, tags_fit, op_in, sized_op, limits_op, sequence_in, add_op, code_of, refusal_for};
 
 use changes::CacheChange;
 use dds_cache::{History, KeepLimits};
+use refusals::Refusal;
 
 // What a record asks for.
 #[derive(Clone, Copy)]
@@ -16,7 +17,6 @@ pub enum Op {
     Add,
     RemoveBefore,
     Range,
-    Malformed,
 }
 
 // ---- the size of each record, operation byte and fields
@@ -32,32 +32,34 @@ const RANGE_SIZE: usize = 17;
 // ---- the operation
 
 // Whether the bytes that name a keep and the presence of max_samples name one.
+#[tactic(auto, unfolding(crate::specs::Format::tags_fit))]
 fn tags_fit(rec: &[u8]) -> bool
     ensures { result ≡ tags_fit rec.now }
 {
-    if records::byte(rec, 1, 0) <= 2 {
-        return records::byte(rec, 6, 0) <= 1;
-    }
-    false
+    records::byte(rec, 1, 0) <= 2 && records::byte(rec, 6, 0) <= 1
 }
 
-fn sized(size: usize, wanted: usize, op: Op) -> Op
+// A wrong length is malformed. A twin of records' sized but for its answer: that one's specs name an Option of its own request.
+#[tactic(auto, unfolding(crate::specs::Format::sized_op))]
+fn sized(size: usize, wanted: usize, op: Op) -> Result<Op, Refusal>
     ensures { result ≡ sized_op wanted size op }
 {
     if size == wanted {
-        return op;
+        Ok(op)
+    } else {
+        Err(Refusal::Malformed)
     }
-    Op::Malformed
 }
 
 // A new or an update, if its limits can be read.
-fn with_limits(rec: &[u8], op: Op) -> Op
+#[tactic(auto, unfolding(crate::specs::Format::limits_op))]
+fn with_limits(rec: &[u8], op: Op) -> Result<Op, Refusal>
     ensures { result ≡ limits_op rec.now op }
 {
-    if tags_fit(rec) {
-        return sized(rec.len(), LIMITS_SIZE, op);
+    if !tags_fit(rec) {
+        return Err(Refusal::Malformed);
     }
-    Op::Malformed
+    sized(rec.len(), LIMITS_SIZE, op)
 }
 
 fn sequence_in(rec: &[u8]) -> u64
@@ -67,33 +69,35 @@ fn sequence_in(rec: &[u8]) -> u64
 }
 
 // An add, if its sequence number is in range.
-fn with_sequence(rec: &[u8]) -> Op
+#[tactic(auto, unfolding(crate::specs::Format::add_op))]
+fn with_sequence(rec: &[u8]) -> Result<Op, Refusal>
     ensures { result ≡ add_op rec.now }
 {
-    if sampleinfo::sequence_number_fits(sequence_in(rec)) {
-        return sized(rec.len(), ADD_SIZE, Op::Add);
+    if !sampleinfo::sequence_number_fits(sequence_in(rec)) {
+        return Err(Refusal::Malformed);
     }
-    Op::Malformed
+    sized(rec.len(), ADD_SIZE, Op::Add)
 }
 
 // Malformed is all that is refused with 1: that comes first everywhere.
-pub fn op_of(rec: &[u8]) -> Op
+#[tactic(auto, unfolding(crate::specs::Format::op_at))]
+pub fn op_of(rec: &[u8]) -> Result<Op, Refusal>
     ensures { result ≡ op_in rec.now }
 {
-    let op = records::byte(rec, 0, 0);
-    match op {
+    match records::byte(rec, 0, 0) {
         0 => with_limits(rec, Op::New),
         1 => with_limits(rec, Op::Update),
         2 => with_sequence(rec),
         3 => sized(rec.len(), REMOVE_SIZE, Op::RemoveBefore),
         4 => sized(rec.len(), RANGE_SIZE, Op::Range),
-        _ => Op::Malformed,
+        _ => Err(Refusal::Malformed),
     }
 }
 
 // ---- limits: 0 the default, 1 the last so many, 2 all
 
 // The history asked for.
+#[tactic(auto, unfolding(crate::specs::Format::history_asked))]
 fn history_of(keep: u8, depth: u32) -> History
     ensures { result ≡ history_asked keep depth }
 {
@@ -105,13 +109,14 @@ fn history_of(keep: u8, depth: u32) -> History
 }
 
 // A negative number reads as one far above the bound, and is refused as such.
+#[tactic(auto, unfolding(crate::specs::Format::most_asked))]
 fn most_of(given: u8, most: u32) -> u32
     ensures { result ≡ most_asked given most }
 {
-    if given == 0 {
-        return KeepLimits::DEFAULT_SAMPLES;
+    match given {
+        0 => KeepLimits::DEFAULT_SAMPLES,
+        _ => most,
     }
-    most
 }
 
 pub fn history_in(rec: &[u8]) -> History
@@ -141,65 +146,27 @@ pub fn change_of(rec: &[u8]) -> CacheChange
 
 // ---- refusals
 
-fn ten_unless(ready: bool) -> u64
-    ensures { result ≡ ten_unless ready }
-{
-    if ready {
-        return 0;
-    }
-    10
-}
-
 impl Op {
-    // The number that refuses a record before the cache is asked: 1 comes first, then 10 while there is no cache. 0 is none.
-    pub fn refusal(self, ready: bool) -> u64
-        ensures { result ≡ refusal_for self ready }
+    // What refuses a record that is not malformed before the cache is asked: all but a new wait for a cache.
+    pub fn refusal(self, ready: bool) -> Result<(), Refusal>
+        ensures { code_of result ≡ refusal_for (Ok self) ready }
     {
         match self {
-            Op::New => 0,
-            Op::Update => ten_unless(ready),
-            Op::Add => ten_unless(ready),
-            Op::RemoveBefore => ten_unless(ready),
-            Op::Range => ten_unless(ready),
-            Op::Malformed => 1,
+            Op::New => Ok(()),
+            _ if ready => Ok(()),
+            _ => Err(Refusal::OutOfTurn),
         }
     }
 }
 
 // ---- a writer as digits
 
-fn hex_digit(n: u8) -> u8
-    requires { n < 16 }
-    ensures { result ≡ digit_of n }
-{
-    if n < 10 {
-        return 48 + n;
-    }
-    87 + n
-}
-
-fn high_digit(byte: u8) -> u8
-    ensures { result ≡ digit_of (byte / 16) }
-{
-    hex_digit(byte / 16)
-}
-
-fn low_digit(byte: u8) -> u8
-    ensures { result ≡ digit_of (byte % 16) }
-{
-    hex_digit(byte % 16)
-}
-
 // The writer as 32 digits, two for each byte.
 pub fn writer_text(writer: [u8; 16]) -> [u8; 32]
     ensures { result ≡ hex_text writer }
 {
-    let mut text = [0u8; 32];
-    let mut i = 0;
-    while i < 16 {
-        text[2 * i] = high_digit(writer[i]);
-        text[2 * i + 1] = low_digit(writer[i]);
-        i += 1;
-    }
+    let mut text = [0; 32];
+    // The text has two places for each byte, so this is no error.
+    let _ = hex::encode_to_slice(&writer, &mut text);
     text
 }

@@ -1,9 +1,5 @@
-use Prim.Native.Nat.{◌≤◌, ◌-◌}
 use Rattle.access.specs.AccessLaws.{Frees}
 use Rattle.access.proofs.free_all.Given as goal
 
 abbrev pub invariant-loop-p : goal.invariant-loop-p
-invariant-loop-p l = Frees l.initial.head l.initial.ws l.slots l.n l.p l.head l.ws × (l.p ≤ l.n)
-
-abbrev pub decreases-loop-p : goal.decreases-loop-p
-decreases-loop-p l = l.n - l.p
+invariant-loop-p l = Frees l.initial.head l.initial.ws l.slots l.n l.p l.head l.ws

@@ -1,11 +1,10 @@
 -- Freed or not, then the rows are viewed.
-use Rattle.std.proofs.Common.{rules}
-use Rattle.access.specs.AccessLaws.{settle_read, settle-take}
+use Rattle.access.specs.AccessLaws.{settle-done}
+use Rattle.access.proofs.settle.Goals.{then-take, else-take}
 use Rattle.access.proofs.settle.Goals as goal
 
-pub returns-then-take : goal.returns-then-take
-returns-then-take c =
-    settle-take c.args.h c.args.ws.now c.args.slots.now c.args.n c.args.take c.args.seen.now _ _ _ c.free_all-head.ensures c.view_rows.ensures c.if-take.true
-
 pub returns : goal.returns
-returns c = search (rules, settle_read)
+returns c =
+    settle-done c.args.h c.if-take.head c.args.ws.now c.if-take.ws c.args.slots.now c.args.n c.args.take c.args.seen.now c.view_rows.new.ws
+    (λ s t. elim c.if-take.branch [ then-take w ↦ rw (w.ws-is, w.head-is, w.if-take.true) (w.free_all-head.ensures s t) | else-take w ↦ rw (w.ws-is, w.head-is, w.if-take.false) t ])
+    c.view_rows.ensures

@@ -1,9 +1,7 @@
-use Prim.Native.Nat.{◌-◌}
+use mathlib.Core.Path.{◌≡◌}
 use Rattle.answers.specs.SoFar.{PairsTo}
 use Rattle.answers.proofs.pair_lines.Given as goal
 
-abbrev pub invariant-loop-p : goal.invariant-loop-p
-invariant-loop-p l = PairsTo l.pairs l.n l.initial.line l.initial.at l.line l.at l.p
-
-abbrev pub decreases-loop-p : goal.decreases-loop-p
-decreases-loop-p l = l.n - l.p
+abbrev pub invariant-loop-pair : goal.invariant-loop-pair
+invariant-loop-pair l =
+    PairsTo l.words l.n l.initial.page.bytes.now l.initial.page.at l.page.bytes.now l.page.at l.pair-index × (l.page.bytes.ghost_name ≡ l.initial.page.bytes.ghost_name)

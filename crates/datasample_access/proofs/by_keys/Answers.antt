@@ -1,19 +1,21 @@
-use Rattle.std.proofs.Common.{rules}
-use mathlib.Core.Path.{refl}
+use Rattle.std.proofs.Common.{rules, refl}
+use Rattle.std.proofs.lemmas.Result.{err_from_is_err_and}
 use Rattle.datasample_access.proofs.ListedLaws.{came-no-table, came-declined, came-listed, odd-declined, odd-not-served}
 use Rattle.datasample_access.proofs.by_keys.Goals as goal
 
-pub returns-then-t-ne256 : goal.returns-then-t-ne256
-returns-then-t-ne256 c = search (rules, came-no-table)
+pub returns-then-t-ne-SLOTS : goal.returns-then-t-ne-SLOTS
+returns-then-t-ne-SLOTS c = search (rules, came-no-table)
 
-pub returns-then-refusal-ne0 : goal.returns-then-refusal-ne0
-returns-then-refusal-ne0 c = record {
-  came = came-declined c.args.h c.args.ws.now c.args.t.now c.args.list.now c.args.out.now c.args.take _ _ _ _ c.refusal-refusal.ensures refl c.places-room.ensures c.if-refusal-ne0.true _ c.declined-then-refusal-ne0.ensures;
-  value = odd-declined _ _ _ _ _ _ _ _ _ _ c.refusal-refusal.ensures c.declined-then-refusal-ne0.ensures (search rules);
-}
+pub returns-in_err-refusal : goal.returns-in_err-refusal
+returns-in_err-refusal c =
+    let p = err_from_is_err_and c.from_residual.result c.from_residual.ensures.1 in
+    record {
+      came = rw (p.1, p.2) (came-declined c.args.h c.args.ws.now c.args.t.now c.args.list.now c.args.out.now c.args.take _ _ _ _ c.refusal.ensures refl c.places.ensures _ c.in_err-refusal.was);
+      value = rw (p.1, p.2) (odd-declined _ _ _ _ _ _ _ _ _ _ c.refusal.ensures c.in_err-refusal.was c.if-t-ne-SLOTS.false);
+    }
 
 pub returns : goal.returns
 returns c = record {
-  came = came-listed c.args.h c.args.ws.now c.args.t.now c.args.list.now c.args.out.now c.args.take _ _ _ _ c.refusal-refusal.ensures refl c.places-room.ensures c.if-refusal-ne0.false _ _ _ _ c.serve-head.ensures _ c.answered.ensures;
-  value = odd-not-served _ _ _ _ _ _ _ _ _ c.refusal-refusal.ensures c.if-refusal-ne0.false c.if-t-ne256.false;
+  came = came-listed c.args.h c.args.ws.now c.args.t.now c.args.list.now c.args.out.now c.args.take _ _ _ _ c.refusal.ensures refl c.places.ensures _ c.in_ok-refusal.was _ _ _ _ c.serve-head.ensures;
+  value = odd-not-served _ _ _ _ _ _ _ _ _ _ c.refusal.ensures c.in_ok-refusal.was c.if-t-ne-SLOTS.false;
 }

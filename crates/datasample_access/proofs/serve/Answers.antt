@@ -5,5 +5,5 @@ use Rattle.datasample_access.proofs.serve.Goals as goal
 pub returns : goal.returns
 returns c =
     serve-done c.args.h _ c.args.take c.args.n c.args.slots.now c.args.ws.now _ c.args.t.now _ c.args.out.now _ _ _ _ _ _ _
-    c.collect.ensures.out_after c.collect.ensures.seen_after refl c.ranking_of-ranking.ensures c.peek-latest.ensures c.last_counts.ensures
-    c.touch_all.ensures c.latest_slot-last.ensures c.settle.ensures
+    c.collect.ensures.out_after c.collect.ensures.seen_after refl c.ranking_of-ranking.ensures (rw c.unwrap_or-last.ensures at c.peek-latest.ensures) c.last_counts.ensures
+    c.touch_all.ensures c.latest_slot.ensures c.requires c.settle.ensures

@@ -1,12 +1,9 @@
-use Rattle.std.proofs.Common.{rules}
-use Rattle.datasample_cache.specs.OtherLaws.{set-no-table, set-outside, set-done}
+use Rattle.std.proofs.Common.{to_z-of_z}
+use Rattle.datasample_cache.specs.Others.{set_up_of}
+use Rattle.datasample_cache.specs.OtherLaws.{set-done}
 use Rattle.datasample_cache.proofs.set_up.Goals as goal
 
-pub returns-then-t-ne256 : goal.returns-then-t-ne256
-returns-then-t-ne256 c = search (rules, set-no-table, set-outside, set-done)
-
-pub returns-then-not-is_within : goal.returns-then-not-is_within
-returns-then-not-is_within c = search (rules, set-no-table, set-outside, set-done)
-
 pub returns : goal.returns
-returns c = search (rules, set-no-table, set-outside, set-done)
+returns c =
+    set-done (set_up_of c.args.mode c.args.keep c.args.instances) c.args.ws.now c.args.t.now c.if-t-ne-SLOTS.false _ (rw (to_z-of_z c.ranges.keep) at c.depth_in.ensures) _ c.ok_or.ensures.value
+    _ _ c.in_ok-depth.was c.from.ensures c.set_up.result c.set_up.new.ws c.fill.new.t c.set_up.ensures c.fill.ensures.1

@@ -1,12 +1,11 @@
-use Rattle.std.proofs.Common.{◌∙◌}
-use Rattle.frames.specs.PieceLaws.{front-whole, piece-long, piece_failed}
+use Rattle.std.proofs.Common.{ℕ, ◌≤◌, false, length, arith, length-take, OnOk}
+use Rattle.frames.specs.PieceLaws.{piece-room}
 use Rattle.frames.proofs.next_record.Goals as goal
 
-pub returns-then-not-head-clause-why : goal.returns-then-not-head-clause-why
-returns-then-not-head-clause-why g c = λ e. c.fill-got.ensures.why (piece_failed _ _ _ _ c.came_of-head.ensures e)
-
+-- all of the record came, so the lent bytes have room for it
 pub returns-clause-size_value : goal.returns-clause-size_value
-returns-clause-size_value g c = λ e. front-whole _ c.fill-more.new.buf _ _ _ _ c.at_most-n.ensures c.fill-more.ensures.within c.fill-more.auto.buf (piece-long _ _ _ _ c.came_of.ensures e) (c.size_of-size.ensures.0 ∙ c.u16_at.ensures)
-
-pub returns-clause-why : goal.returns-clause-why
-returns-clause-why g c = λ e. c.fill-more.ensures.why (piece_failed _ _ _ _ c.came_of.ensures e)
+returns-clause-size_value g c =
+    let size : ℕ = c.from-size.result in
+    let whole : OnOk c.came_of-2.result (size ≤ length c.fill-body.new.buf) = rw c.came_of-2.ensures (piece-room c.fill-body.result size false _ c.fill-body.ensures) in
+    let fits : size ≤ length c.fill-body.new.buf = rw c.in_ok-came_of-2.was at whole in
+    omega (arith, fits, c.fill-body.auto.buf, length-take c.min-n.result c.args.rec.now, c.min-n.ensures, c.from-size.ensures, c.u16_at.ensures)

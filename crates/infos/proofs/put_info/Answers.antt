@@ -1,9 +1,9 @@
 use Rattle.std.proofs.Common.{rules}
-use Rattle.infos.specs.PutLaws.{put-done, put-kept}
+use Rattle.infos.specs.PutLaws.{put_done, put_kept}
 use Rattle.infos.proofs.put_info.Goals as goal
 
-pub returns-then-p-out : goal.returns-then-p-out
-returns-then-p-out c = search (rules, put-done)
+pub returns-then-p-places : goal.returns-then-p-places
+returns-then-p-places c = search (rules, put_done)
 
-pub returns-else-p-out : goal.returns-else-p-out
-returns-else-p-out c = search (rules, put-kept)
+pub returns-else-p-places : goal.returns-else-p-places
+returns-else-p-places c = search (rules, put_kept)

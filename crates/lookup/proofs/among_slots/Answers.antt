@@ -1,6 +1,5 @@
 -- The slots passed are others.
 use Rattle.std.proofs.Common.{rules}
-use Prim.Native.Nat.{◌-◌}
 use Rattle.lookup.specs.LookupLaws.{slots-start, slots-hit, slots-on, slots_end}
 use Rattle.lookup.proofs.among_slots.Goals as goal
 

@@ -3,11 +3,11 @@ use Rattle.std.proofs.Common.{rules}
 use Rattle.lookup.specs.LookupLaws.{great-start, great-on, great-end}
 use Rattle.lookup.proofs.greatest.Goals as goal
 
-pub loop-i-init : goal.loop-i-init
-loop-i-init c = search (rules, great-start)
+pub loop-slot-init : goal.loop-slot-init
+loop-slot-init c = search (rules, great-start)
 
-pub loop-i-preserved : goal.loop-i-preserved
-loop-i-preserved c = search (rules, great-on)
+pub loop-slot-preserved : goal.loop-slot-preserved
+loop-slot-preserved c = search (rules, great-on)
 
 pub returns : goal.returns
 returns c = search (rules, great-end)

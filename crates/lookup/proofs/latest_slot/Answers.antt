@@ -3,8 +3,8 @@ use Rattle.std.proofs.Common.{rules}
 use Rattle.lookup.specs.LookupLaws.{latest-newest, latest-greatest}
 use Rattle.lookup.proofs.latest_slot.Goals as goal
 
-pub returns-then-newest-lt-SLOTS : goal.returns-then-newest-lt-SLOTS
-returns-then-newest-lt-SLOTS c = search (rules, latest-newest)
+pub returns-then-h-lt-SLOTS : goal.returns-then-h-lt-SLOTS
+returns-then-h-lt-SLOTS c = search (rules, latest-newest)
 
 pub returns : goal.returns
 returns c = search (rules, latest-greatest)

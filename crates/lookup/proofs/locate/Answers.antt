@@ -1,19 +1,13 @@
--- An unknown instance, no keep count, or a window; the guards are idle where the words are those of a store.
+-- An unknown instance, no keep count, or a window; one that there is not is no store's.
 use Rattle.std.proofs.Common.{rules}
-use Rattle.lookup.specs.LookupLaws.{locate-none, locate-slots, locate-far, locate-deep, locate-cells}
+use Rattle.lookup.specs.LookupLaws.{locate-none, locate-slots, locate-cells}
 use Rattle.lookup.proofs.locate.Goals as goal
 
-pub returns-then-held-row : goal.returns-then-held-row
-returns-then-held-row c = search (rules, locate-none)
+pub returns-then-h-row : goal.returns-then-h-row
+returns-then-h-row c = search (rules, locate-none)
 
-pub returns-then-depth-eq0 : goal.returns-then-depth-eq0
-returns-then-depth-eq0 c = search (rules, locate-slots)
+pub returns-then-h-eq0 : goal.returns-then-h-eq0
+returns-then-h-eq0 c = search (rules, locate-slots)
 
-pub returns-then-row-ge-ROWS : goal.returns-then-row-ge-ROWS
-returns-then-row-ge-ROWS c = search (rules, locate-far)
-
-pub returns-then-depth-gt-SLOTS : goal.returns-then-depth-gt-SLOTS
-returns-then-depth-gt-SLOTS c = search (rules, locate-deep)
-
-pub returns : goal.returns
-returns c = search (rules, locate-cells)
+pub returns-in_ok-of : goal.returns-in_ok-of
+returns-in_ok-of c = locate-cells _ _ _ _ _ c.find-row.ensures c.if-h-row.false _ _ _ c.of.ensures c.in_ok-of.was c.among_cells.ensures c.if-h-eq0.false

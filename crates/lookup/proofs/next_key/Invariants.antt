@@ -1,10 +1,5 @@
-use mathlib.Core.Path.{◌≡◌}
-use Prim.Native.Nat.{◌≤◌, min}
 use Rattle.lookup.specs.LookupLaws.{Nears}
 use Rattle.lookup.proofs.next_key.Given as goal
 
-abbrev pub invariant-loop-i : goal.invariant-loop-i
-invariant-loop-i l = Nears l.ws l.held l.name l.i l.best × (l.i ≤ l.rows) × (l.rows ≡ min l.held 32)
-
-abbrev pub decreases-loop-i : goal.decreases-loop-i
-decreases-loop-i l = l.i
+abbrev pub invariant-loop-row : goal.invariant-loop-row
+invariant-loop-row l = Nears l.ws l.held l.name l.row l.best

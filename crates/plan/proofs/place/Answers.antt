@@ -1,16 +1,22 @@
--- The guards are idle where the words are those of a store; then a refusal, or the sample in its slot.
-use Rattle.std.proofs.Common.{rules}
-use Rattle.plan.specs.PlaceLaws.{place-far, place-deep, place-full, place-done}
+-- A window that there is not is no store's; then a refusal, or the sample in its slot.
+use Rattle.std.proofs.lemmas.Result.{err_from_is_err_and}
+use Rattle.plan.specs.PlaceLaws.{place-out, place-full, place-done}
 use Rattle.plan.proofs.place.Goals as goal
 
-pub returns-then-row-ge-ROWS : goal.returns-then-row-ge-ROWS
-returns-then-row-ge-ROWS c = search (rules, place-far)
+pub returns-in_err-window : goal.returns-in_err-window
+returns-in_err-window c s i t r n x =
+    let p = err_from_is_err_and c.from_residual.result c.from_residual.ensures.1 in
+    rw (p.1, p.2) (place-out c.args.h c.args.ws.now c.args.row c.args.name c.args.x c.args.key s i t r n x _ _ c.of.ensures c.ok_or.ensures.value _ c.in_err-window.was)
 
-pub returns-then-depth-gt-SLOTS : goal.returns-then-depth-gt-SLOTS
-returns-then-depth-gt-SLOTS c = search (rules, place-deep)
-
-pub returns-then-count-eq0 : goal.returns-then-count-eq0
-returns-then-count-eq0 c = search (rules, place-full)
+pub returns-in_err-slot : goal.returns-in_err-slot
+returns-in_err-slot c s i t r n x =
+    let p = err_from_is_err_and c.from_residual-in_err-slot.result c.from_residual-in_err-slot.ensures.1 in
+    rw (p.1, p.2)
+    (place-full c.args.h c.args.ws.now c.args.row c.args.name c.args.x c.args.key s i t r n x _ _ c.of.ensures c.ok_or.ensures.value _ c.in_ok-window.was _ c.oldest-old.ensures _ c.give-roomy.ensures
+    _ _ c.slot_for.ensures c.ok_or-2.ensures.value _ c.in_err-slot.was)
 
 pub returns : goal.returns
-returns c = search (rules, place-done)
+returns c s i t r n x =
+    rw c.then_some.ensures
+    (place-done c.args.h c.args.ws.now c.args.row c.args.name c.args.x c.args.key s i t r n x _ _ c.of.ensures c.ok_or.ensures.value _ c.in_ok-window.was _ c.oldest-old.ensures _ c.give-roomy.ensures
+    _ _ c.slot_for.ensures c.ok_or-2.ensures.value _ c.in_ok-slot.was _ _ _ c.take.ensures c.max.ensures c.commit.ensures)

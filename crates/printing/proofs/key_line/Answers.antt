@@ -1,9 +1,12 @@
 use Rattle.std.proofs.Common.{rules}
-use Rattle.printing.specs.LineLaws.{line_kept, key-done}
+use Rattle.printing.specs.AnswerLaws.{added-length}
+use Rattle.printing.specs.Printout.{printed}
 use Rattle.printing.proofs.key_line.Goals as goal
 
-pub returns-then-left-lt-LINE_ROOM : goal.returns-then-left-lt-LINE_ROOM
-returns-then-left-lt-LINE_ROOM c = search (rules, line_kept, key-done)
+pub line-requires : goal.line-requires
+unfolding printed
+line-requires c = search (rules, added-length)
 
 pub returns : goal.returns
-returns c = search (rules, key-done)
+unfolding printed
+returns c = search rules

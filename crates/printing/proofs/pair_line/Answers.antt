@@ -1,9 +1,6 @@
-use Rattle.std.proofs.Common.{rules}
-use Rattle.printing.specs.LineLaws.{line_kept, pair-done}
+use Rattle.std.proofs.Common.{arith}
+use Rattle.printing.specs.AnswerLaws.{pair-line-length}
 use Rattle.printing.proofs.pair_line.Goals as goal
 
-pub returns-then-left-lt-LINE_ROOM : goal.returns-then-left-lt-LINE_ROOM
-returns-then-left-lt-LINE_ROOM c = search (rules, line_kept, pair-done)
-
-pub returns : goal.returns
-returns c = search (rules, pair-done)
+pub line-requires : goal.line-requires
+line-requires c = omega (arith, pair-line-length (record { key = c.args.key; name = c.args.instance }))

@@ -1,33 +1,14 @@
-use Rattle.std.proofs.Common.{rules}
-use Rattle.session.proofs.TurnLaws.{turn-declined, turn-set-up, turn-add, turn-no-writers, turn-choose, turn-choose-within, turn-read, turn-take, turn-next-key, turn-malformed}
+use Rattle.std.proofs.lemmas.Result.{err_from_is_err_and}
+use Rattle.session.proofs.TurnLaws.{turn-declined, turn-begin, turn-ask}
 use Rattle.session.proofs.answer.Goals as goal
 
-pub returns-then-n-ne0 : goal.returns-then-n-ne0
-returns-then-n-ne0 c = search (rules, turn-declined)
+pub returns-in_err-q : goal.returns-in_err-q
+returns-in_err-q c =
+    let p = err_from_is_err_and c.from_residual.result c.from_residual.ensures.1 in
+    rw (p.1, p.2) (turn-declined c.args.s c.args.ws.now c.args.t.now c.args.rec.now _ _ c.decode.ensures c.admitted.ensures _ c.in_err-q.was c.args.pairs.now c.args.infos.now)
 
-pub returns-in-SetUp : goal.returns-in-SetUp
-returns-in-SetUp c = search (rules, turn-set-up)
+pub returns-in-None : goal.returns-in-None
+returns-in-None c = turn-begin c.args.s c.args.ws.now c.args.t.now c.args.rec.now _ _ c.decode.ensures c.admitted.ensures _ c.in_ok-q.was _ _ _ _ _ _ _ c.in-None.is (λ us. c.begin.ensures us c.args.pairs.now c.args.infos.now)
 
-pub returns-in-Add : goal.returns-in-Add
-returns-in-Add c = search (rules, turn-add)
-
-pub returns-in-NoWriters : goal.returns-in-NoWriters
-returns-in-NoWriters c = search (rules, turn-no-writers)
-
-pub returns-in-Choose : goal.returns-in-Choose
-returns-in-Choose c = search (rules, turn-choose)
-
-pub returns-in-ChooseWithin : goal.returns-in-ChooseWithin
-returns-in-ChooseWithin c = search (rules, turn-choose-within)
-
-pub returns-in-Read : goal.returns-in-Read
-returns-in-Read c = search (rules, turn-read)
-
-pub returns-in-Take : goal.returns-in-Take
-returns-in-Take c = search (rules, turn-take)
-
-pub returns-in-NextKey : goal.returns-in-NextKey
-returns-in-NextKey c = search (rules, turn-next-key)
-
-pub returns-in-Malformed : goal.returns-in-Malformed
-returns-in-Malformed c = search (rules, turn-malformed)
+pub returns-in-Some : goal.returns-in-Some
+returns-in-Some c = turn-ask c.args.s c.args.ws.now c.args.t.now c.args.rec.now _ _ c.decode.ensures c.admitted.ensures _ c.in_ok-q.was _ _ _ _ _ _ _ _ c.in-Some.is c.ask.ensures

@@ -1,12 +1,19 @@
-use Rattle.std.proofs.Common.{rules}
-use Rattle.topic_records.specs.FormatLaws.{hex-start, hex-turn, hex-end}
+use Rattle.std.proofs.Common.{◌≡◌, ◌<◌, ℕ, List, length, get_or, ◌∙◌, sym, true≢false, rules, arith}
+use mir.Val.{Fits}
+use mir.Syntax.{w8}
+use Rattle.std.specs.Prelude.{Result, Ok, Err, IsOk, OnOk}
+use Rattle.topic_records.specs.FormatLaws.{hex-is}
 use Rattle.topic_records.proofs.writer_text.Goals as goal
 
-pub loop-i-init : goal.loop-i-init
-loop-i-init c = search (rules, hex-start, hex-turn, hex-end)
+said : {A E : Type 0} (P : Type 0) (r : Result A E) → IsOk r → OnOk r P → P
+said P (Ok x) o p = p
+said P (Err e) o p = absurd (true≢false (sym o))
 
-pub loop-i-preserved : goal.loop-i-preserved
-loop-i-preserved c = search (rules, hex-start, hex-turn, hex-end)
+bytes : (w : List ℕ) → ((i : ℕ) → Fits w8 (get_or w i 0)) → (i : ℕ) → get_or w i 0 < 256
+bytes w fits i = (fits i).fits
 
 pub returns : goal.returns
-returns c = search (rules, hex-start, hex-turn, hex-end)
+returns c =
+    let e = c.encode_to_slice.ensures in
+    let long : length c.args.writer ≡ 16 = search rules in
+    said _ _ (e.fits.1 (omega arith)) e.written ∙ hex-is c.args.writer (bytes c.args.writer (search rules))

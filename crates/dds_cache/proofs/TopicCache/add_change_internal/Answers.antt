@@ -4,8 +4,8 @@ use Rattle.dds_cache.proofs.TopicCache.add_change_internal.Goals as goal
 pub returns-then-find_by_sn : goal.returns-then-find_by_sn
 returns-then-find_by_sn c = record { refusing = refusing-held _ _ _ _; came = λ es. add-held _ es _ _ _ _ _ c.collect_count-n.ensures.1 c.find_by_sn.ensures c.if-find_by_sn.true _ _ c.without.ensures.0 c.without.ensures.1 }
 
-pub returns-in-Refused : goal.returns-in-Refused
-returns-in-Refused c = record { refusing = refusing-six _ _; came = λ es. add_six _ es _ _ _ _ _ c.collect_count-n.ensures.1 c.find_by_sn.ensures c.if-find_by_sn.false _ c.next.ensures c.in-Refused.is }
+pub returns-in_default : goal.returns-in_default
+returns-in_default c = record { refusing = refusing-six _ _; came = λ es. add_six _ es _ _ _ _ _ c.collect_count-n.ensures.1 c.find_by_sn.ensures c.if-find_by_sn.false _ c.next.ensures c.in_default.is }
 
-pub returns-in-Key : goal.returns-in-Key
-returns-in-Key c = record { refusing = refusing-key _ _ _ _ _ c.insert.ensures.0; came = λ es. add-key _ es _ _ _ _ _ c.collect_count-n.ensures.1 c.find_by_sn.ensures c.if-find_by_sn.false _ c.next.ensures _ c.in-Key.is _ _ c.insert.ensures.0 c.insert.ensures.1 c.insert.ensures.2 }
+pub returns : goal.returns
+returns c = record { refusing = refusing-key _ _ _ _ _; came = λ es. add-key _ es _ _ _ _ _ c.collect_count-n.ensures.1 c.find_by_sn.ensures c.if-find_by_sn.false _ c.next.ensures _ c.in-Some.is _ _ c.insert.ensures.0 c.insert.ensures.1 }

@@ -1,8 +1,11 @@
+use Rattle.std.proofs.lemmas.Result.{err_from_is_err_and}
 use Rattle.dds_cache.specs.CallLaws.{updates-none, updates-some}
 use Rattle.dds_cache.proofs.TopicCache.update_keep_limits.Goals as goal
 
-pub returns-in-OutOfBounds : goal.returns-in-OutOfBounds
-returns-in-OutOfBounds c = updates-none _ _ c.new.ensures.limits c.in-OutOfBounds.is _
+pub returns-in_err-other : goal.returns-in_err-other
+returns-in_err-other c =
+    let p = err_from_is_err_and c.from_residual.result c.from_residual.ensures.1 in
+    rw (p.1, p.2) (updates-none _ _ c.new.ensures _ c.in_err-other.was c.args.self)
 
-pub returns-in-Limits : goal.returns-in-Limits
-returns-in-Limits c = updates-some _ _ c.new.ensures.limits _ _ c.in-Limits.is c.args.self c.raise.ensures
+pub returns : goal.returns
+returns c = updates-some _ _ c.new.ensures _ _ c.in_ok-other.was c.args.self c.raise.ensures

@@ -1,11 +1,8 @@
 use mathlib.Core.Path.{◌≡◌}
-use Prim.Native.Nat.{◌+◌, ◌-◌, ◌*◌, ◌≤◌}
-use lib.ListN.{length, drop}
+use Prim.Native.Nat.{◌+◌, ◌*◌, ◌≤◌}
+use lib.ListN.{drop}
 use Rattle.slots.specs.Bits.{bits_of, total}
 use Rattle.slots.proofs.Free.count.Given as goal
 
 abbrev pub invariant-loop-word : goal.invariant-loop-word
-invariant-loop-word l = (l.word ≤ 4) × (length l.ws ≡ 4) × (l.n ≤ 64 * l.word) × (l.n + total (bits_of (drop l.word l.ws)) ≡ total (bits_of l.ws))
-
-abbrev pub decreases-loop-word : goal.decreases-loop-word
-decreases-loop-word l = 4 - l.word
+invariant-loop-word l = (l.free ≤ 64 * l.word-index) × (l.free + total (bits_of (drop l.word-index l.fn.self.words)) ≡ total (bits_of l.fn.self.words))

@@ -1,9 +1,0 @@
-use Rattle.std.proofs.Common.{rules}
-use Rattle.printing.specs.LineLaws.{line_kept, number-done}
-use Rattle.printing.proofs.number_line.Goals as goal
-
-pub returns-then-left-lt-LINE_ROOM : goal.returns-then-left-lt-LINE_ROOM
-returns-then-left-lt-LINE_ROOM c = search (rules, line_kept, number-done)
-
-pub returns : goal.returns
-returns c = search (rules, number-done)

@@ -1,0 +1,7 @@
+use Rattle.std.proofs.Common.{arith}
+use Rattle.printing.specs.AnswerLaws.{number-line-length}
+use Rattle.printing.specs.Printout.{selected_word}
+use Rattle.printing.proofs.selected_line.Goals as goal
+
+pub line-requires : goal.line-requires
+line-requires c = omega (arith, number-line-length selected_word c.args.n)
