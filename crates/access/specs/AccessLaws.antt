@@ -2,26 +2,26 @@
 use Rattle.std.specs.Prelude.{◌≡◌, Bool, cond, List, [], ◌∷◌, ◌++◌, set, take, drop, eqb, ltb, Some, None}
 use Rattle.std.specs.Prelude as rust
 use Rattle.std.specs.Bool.{then_some}
+use Rattle.std.specs.Simd.{first_chunks}
 use Rattle.std.proofs.Math.Path.{refl, sym, ap}
-use Rattle.std.proofs.Common.{◌∙◌, le_of_suc-le-suc, not-suc-le-zero}
+use Rattle.std.proofs.Common.{◌∙◌, le_of_suc-le-suc, not-suc-le-zero, length-take-le}
 use Rattle.std.proofs.Math.Bool.{true, false}
 use Prim.Native.Nat.{ℕ, zero, suc, ◌+◌, ◌-◌, ◌*◌, ◌/◌, ◌≤◌, ◌<◌, min}
 use Rattle.std.proofs.Math.Nat.{sub-zero}
 use Rattle.std.proofs.Math.Numerals.{add-one}
+use Rattle.std.proofs.Math.Seq.{get_or-take}
 use native.Mathlib.Omega.{arith}
-use borrow.Author.Tests.{lt-ltb, le-ltb, ne_eqb}
+use borrow.Author.Tests.{lt-ltb, le-ltb}
 use Rattle.std.proofs.Math.ListN.{length, get_or, length-map}
-use Rattle.sampleinfo.specs.Counts as counts
 use Rattle.sampleinfo.specs.Counts.{accessed_at}
 use Rattle.sampleinfo.specs.Samples.{total_of}
-use Rattle.sampleinfo.specs.declared.NotAliveGenerationCounts.{NotAliveGenerationCounts}
 use Rattle.sampleinfo.specs.declared.InstanceMetaData.{InstanceMetaData}
 use Rattle.sampleinfo.specs.declared.Sample.{Sample}
 use Rattle.sampleinfo.specs.declared.Info.{Info}
 use Rattle.model.specs.Pairs.{Pair}
 use Rattle.sampleinfo.specs.declared.Ranks.{Ranks}
 use Rattle.pairs.specs.Flat.{pairs_of}
-use Rattle.pairs.specs.FlatLaws.{length_pairs, no_pair, pair-at}
+use Rattle.pairs.specs.FlatLaws.{length_pairs, no_pair}
 use Rattle.pairs.specs.Repeat.{first_dead, place_in}
 use Rattle.pairs.specs.BadLaws.{dead-here, dead-on, dead-past}
 use Rattle.store.specs.Store.{Store, slot_named, is_held, accessed_in}
@@ -37,7 +37,7 @@ use Rattle.change.specs.Keeping.{tied-kept, fit-freed-at}
 use Rattle.refine.specs.Lists.{slots_named, viewed_rows}
 use Rattle.infos.specs.Infos.{info_from}
 use Rattle.infos.specs.Words.{put_info}
-use Rattle.access.specs.Access.{slot_at, run, named_first, Found, last_counts, noted, freed_each, viewed_word, viewed_by, settled}
+use Rattle.access.specs.Access.{slot_at, run, named_first, Found, noted, freed_each, viewed_word, viewed_by, settled}
 
 -- ---- the slots of a list
 
@@ -84,6 +84,17 @@ no-place : (b : Bool) (n : ℕ) → None ≡ then_some b n → b ≡ false
 no-place true n e = let z : ◌≡◌ {A = ℕ} 0 1 = cc in absurd (omega arith)
 no-place false n e = refl
 
+-- the words of a pair, as `as_chunks` gives them
+chunk-pair : (l : List ℕ) (i : ℕ) (d : List ℕ) (x y : ℕ) → i < length l / 2
+    → pair_of (get_or (get_or (first_chunks 2 (length l / 2) l) i d) 0 x) (get_or (get_or (first_chunks 2 (length l / 2) l) i d) 1 y) ≡ get_or (pairs_of l) i no_pair
+unfolding pairs_of
+chunk-pair [] i d x y h = absurd (omega arith)
+chunk-pair (k ∷ []) i d x y h = absurd (omega arith)
+chunk-pair (k ∷ m ∷ l) zero d x y h = let half : length (k ∷ m ∷ l) / 2 ≡ suc (length l / 2) = omega arith in rw half refl
+chunk-pair (k ∷ m ∷ l) (suc i) d x y h =
+    let half : length (k ∷ m ∷ l) / 2 ≡ suc (length l / 2) = omega arith in
+    rw half (chunk-pair l i d x y (omega arith))
+
 module _ (h : Cache) (ws list slots : List ℕ) (n i : ℕ) (now : List ℕ) (f : Finds h ws list slots i now) (e : n ≡ length list / 2) where
   found_at : (r : rust.Option ℕ) (s : Store) → length slots ≡ 256 → Tied s h ws → i ≤ length (pairs_of list) → first_dead (is_held s) (drop i (pairs_of list)) ≡ 0
       → r ≡ place_in (length (pairs_of list)) i → Found s (pairs_of list) r slots now
@@ -96,12 +107,14 @@ module _ (h : Cache) (ws list slots : List ℕ) (n i : ℕ) (now : List ℕ) (f 
   finds-end l b s long t = let m : length (pairs_of list) ≡ length list / 2 = length_pairs list in
       found_at None s long t (omega arith) (dead-past (is_held s) (pairs_of list) i (omega arith)) (rw (le-ltb i (length (pairs_of list)) (omega arith)))
 
-  module _ (o : rust.Option ℕ) (w : (z : Store) → Tied z h ws → o ≡ slot_in (slot_named z (pair_of (get_or list (2 * i) 0) (get_or list (2 * i + 1) 0)))) (l : i < n) where
+  module _ (cs : List (List ℕ)) (g : cs ≡ first_chunks 2 (length list / 2) list) (d : List ℕ) (x y : ℕ) (o : rust.Option ℕ)
+      (w : (z : Store) → Tied z h ws → o ≡ slot_in (slot_named z (pair_of (get_or (get_or cs i d) 0 x) (get_or (get_or cs i d) 1 y)))) (l : i < n) where
     within : i < length (pairs_of list)
     within = omega (arith, length_pairs list)
 
     named-is : (s : Store) → Tied s h ws → o ≡ slot_in (slot_named s (get_or (pairs_of list) i no_pair))
-    named-is s t = w s t ∙ sym (ap (λ (p : Pair). slot_in (slot_named s p)) (pair-at list i (omega arith)))
+    named-is s t = w s t ∙ ap (λ (ds : List (List ℕ)). slot_in (slot_named s (pair_of (get_or (get_or ds i d) 0 x) (get_or (get_or ds i d) 1 y)))) g
+        ∙ ap (λ (p : Pair). slot_in (slot_named s p)) (chunk-pair list i d x y (omega arith))
 
     pub finds-dead : o ≡ None → (s : Store) → length slots ≡ 256 → Tied s h ws → Found s (pairs_of list) (Some i) slots now
     finds-dead b s long t =
@@ -111,8 +124,8 @@ module _ (h : Cache) (ws list slots : List ℕ) (n i : ℕ) (now : List ℕ) (f 
     pub finds-on : (slot : ℕ) → o ≡ Some slot → n ≤ 256 → Finds h ws list slots (i + 1) (set now i slot)
     unfolding Finds
     finds-on slot b few s long t =
-        let x : ℕ = slot_named s (get_or (pairs_of list) i no_pair) in
-        let live : (slot ≡ x) × (ltb x 256 ≡ true) = some-place (ltb x 256) x slot (sym b ∙ named-is s t) in
+        let k0 : ℕ = slot_named s (get_or (pairs_of list) i no_pair) in
+        let live : (slot ≡ k0) × (ltb k0 256 ≡ true) = some-place (ltb k0 256) k0 slot (sym b ∙ named-is s t) in
         let k : length (slots_named s (pairs_of list)) ≡ length (pairs_of list) = length-map (pairs_of list) (slot_named s) in
         let at : slot ≡ get_or (slots_named s (pairs_of list)) i 256 = live.0 ∙ sym (get-named s (pairs_of list) i within) in
         let on : first_dead (is_held s) (drop i (pairs_of list)) ≡ suc (first_dead (is_held s) (drop (i + 1) (pairs_of list))) =
@@ -196,9 +209,18 @@ module _ (ws : List ℕ) (held : ℕ) (seen : List ℕ) (row : ℕ) (now : List 
   views-on end e l s t = rw (add-one row)
       (row-viewed (viewed_rows row (λ r. get_or seen r 0) s) held (length s.insts) row (get_or seen row 0) now end (v s t).0 (v s t).1 (omega (arith, t.count)) e)
 
+  -- the words seen are those of the rows alone
+  pub views-next : (end : List ℕ) → length seen ≡ 32 → end ≡ viewed_word now row (get_or (take rows seen) row 0) → row < length (take rows seen) → Views ws held seen (row + 1) end
+  views-next end k e l =
+      let r : row < rows = rw (length-take-le rows seen (omega arith)) at l in
+      views-on end (e ∙ ap (viewed_word now row) (get_or-take rows seen row 0 r)) r
+
   pub views-end : row ≤ rows → rows ≤ row → (s : Store) → Held s held ws → Held (viewed_by seen s) held now
   unfolding Views
   views-end l m s t = let e : row ≡ length s.insts = omega (arith, t.count, few32 s t.fit) in rw (← e) (v s t).0
+
+  pub views-last : length seen ≡ 32 → row ≤ length (take rows seen) → length (take rows seen) ≤ row → (s : Store) → Held s held ws → Held (viewed_by seen s) held now
+  views-last k l m = let r : length (take rows seen) ≡ rows = length-take-le rows seen (omega arith) in views-end (omega (arith, r)) (omega (arith, r))
 
 -- ---- settled
 

@@ -13,7 +13,7 @@ ghost use Rattle.infos.specs.Infos.{ranks_from, info_from};
 ghost use Rattle.infos.specs.Words.{put_info};
 ghost use Rattle.access.specs.Access.{slot_at, run, Judges, Found, bad_of, noted, last_counts, freed_each, viewed_word, viewed_by, settled};
 
-use index::Cache;
+use index::{Cache, Index};
 use refusals::Refusal;
 use sampleinfo::{NotAliveGenerationCounts, Sample};
 
@@ -26,19 +26,14 @@ enum Bad {
     Twice(usize),
 }
 
-// The slot of each of n pairs goes to its place, up to the first pair that is not live. The answer is that one's place.
-fn find_slots(
-    h: Cache,
-    ws: &[u64; Cache::WORDS],
-    list: &[u64],
-    n: usize,
-    slots: &mut [u64; 256],
-) -> Option<usize>
-    requires { (n ≡ length list.now / 2) × (n ≤ 256) }
-    ensures { (s : Store) → length slots.old ≡ 256 → Tied s h ws.now → Found s (pairs_of list.now) result slots.old slots.new }
+// The slot of each pair goes to its place, up to the first pair that is not live. The answer is that one's place.
+fn find_slots(x: &Index, list: &[u64], slots: &mut [u64; Cache::SLOTS]) -> Option<usize>
+    requires { length list.now / 2 ≤ 256 }
+    ensures { (s : Store) → length slots.old ≡ 256 → Tied s x.now.head x.now.words → Found s (pairs_of list.now) result slots.old slots.new }
 {
-    for i in 0..n {
-        let Some(slot) = lookup::locate(h, ws, list[2 * i], list[2 * i + 1]) else {
+    let (pairs, _) = list.as_chunks::<2>();
+    for (i, pair) in pairs.iter().enumerate() {
+        let Some(slot) = lookup::locate(x, pair[0], pair[1]) else {
             return Some(i);
         };
         slots[i] = slot as u64;
@@ -46,7 +41,7 @@ fn find_slots(
     None
 }
 
-// By the places of the first that is not live and of the first repeat, of n pairs: the earlier one decides.
+// By the places of the first that is not live and of the first repeat: the earlier one decides.
 fn first_bad(dead: Option<usize>, twice: Option<usize>) -> Option<Bad>
     ensures { (n d r : ℕ) → d ≤ n → r ≤ n → dead ≡ place_in n d → twice ≡ place_in n r → bad_of result ≡ bad_by d r n }
 {
@@ -60,13 +55,12 @@ fn first_bad(dead: Option<usize>, twice: Option<usize>) -> Option<Bad>
 
 // "Lists: 8, 9", after 1. The slots of a list that is accepted stand first in `slots`. The room is in infos.
 pub fn refusal(
-    h: Cache,
-    ws: &[u64; Cache::WORDS],
+    x: &Index,
     list: &[u64],
     room: usize,
-    slots: &mut [u64; 256],
+    slots: &mut [u64; Cache::SLOTS],
 ) -> Result<(), Refusal>
-    ensures { Judges h ws.now list.now room result slots.old slots.new }
+    ensures { Judges x.now.head x.now.words list.now room result slots.old slots.new }
 {
     if !pairs::whole(list) {
         return Err(Refusal::Malformed);
@@ -77,7 +71,7 @@ pub fn refusal(
         return Err(Refusal::BadList);
     }
     let twice = pairs::first_repeat(list);
-    let dead = find_slots(h, ws, list, n, slots);
+    let dead = find_slots(x, list, slots);
     if first_bad(dead, twice).is_some() {
         return Err(Refusal::BadList);
     }
@@ -89,21 +83,20 @@ pub fn refusal(
 
 // ---- what is shown
 
-// The slot at a place of the list, 256 past the end.
-pub fn slot_at(slots: &[u64; 256], p: usize) -> usize
+// The slot at a place of the list.
+// Kept: 256 past the end, as the definition has it: the number of no slot, which changes nothing.
+pub fn slot_at(slots: &[u64; Cache::SLOTS], p: usize) -> usize
     ensures { result ≡ slot_at slots.now p }
 {
-    if p < Cache::SLOTS {
-        return slots[p] as usize;
-    }
-    256
+    slots.get(p).map_or(Cache::SLOTS, |slot| *slot as usize)
 }
 
 // The counts of the instance of the list's last pair.
+// Kept: slots and n side by side, here and below: the contracts speak of n and of `run n 0 slots`, and may not change.
 #[tactic(auto, unfolding(crate::specs::Access::last_counts))]
 pub fn last_counts(
     ws: &[u64; Cache::WORDS],
-    slots: &[u64; 256],
+    slots: &[u64; Cache::SLOTS],
     n: usize,
 ) -> NotAliveGenerationCounts
     ensures { result ≡ last_counts ws.now slots.now n }
@@ -112,13 +105,12 @@ pub fn last_counts(
         return NotAliveGenerationCounts::zero();
     }
     let row = index::owner_at(ws, slot_at(slots, n - 1)) as usize;
-    let imd = index::meta_at(ws, row);
-    imd.latest_generation_available
+    index::meta_at(ws, row).latest_generation_available
 }
 
 // What was accessed of a row: the greatest so far. An `if` and not `max`, which stores where nothing rises too.
 #[tactic(auto, unfolding(crate::specs::Access::noted))]
-fn note(seen: &mut [u64; 32], row: usize, accessed: u64)
+fn note(seen: &mut [u64; Cache::ROWS], row: usize, accessed: u64)
     ensures { seen.new ≡ noted seen.old row accessed }
 {
     if row < Cache::ROWS && seen[row] < accessed {
@@ -135,7 +127,7 @@ pub fn show(
     follow: usize,
     ranking: infos::Ranking,
     out: &mut [u64],
-    seen: &mut [u64; 32],
+    seen: &mut [u64; Cache::ROWS],
 )
     ensures out_after { out.new ≡ put_info out.old p (info_from s (meta_at (metas_in ws.now) (get_or (owners_in ws.now) slot 0)) (ranks_from ranking follow s.generation_counts)) }
     ensures seen_after { seen.new ≡ noted seen.old (get_or (owners_in ws.now) slot 0) (accessed_at (total_of s)) }
@@ -151,19 +143,18 @@ pub fn show(
 // ---- what is left
 
 // The slots become free, one after the other.
-fn free_all(h: Cache, ws: &mut [u64; Cache::WORDS], slots: &[u64; 256], n: usize) -> Cache
-    ensures { (s : Store) → Tied s h ws.old → Tied (freed_each s (run n 0 slots.now)) result ws.new }
+fn free_all(x: &mut Index, slots: &[u64; Cache::SLOTS], n: usize)
+    ensures { (s : Store) → Tied s x.old.head x.old.words → Tied (freed_each s (run n 0 slots.now)) x.new.head x.new.words }
 {
-    let mut head = h;
     for p in 0..n {
         let slot = slot_at(slots, p);
-        let row = index::owner_at(ws, slot) as usize;
-        head = change::free_slot(head, ws, row, slot);
+        let row = index::owner_at(&x.words, slot) as usize;
+        change::free_slot(x, row, slot);
     }
-    head
 }
 
 // An instance that the list did not show keeps what it had.
+// Kept: 0 for not shown, as in `viewed_word`: a total that was accessed has 2 added.
 fn view_row(ws: &mut [u64; Cache::WORDS], row: usize, accessed: u64)
     ensures { ws.new ≡ viewed_word ws.old row accessed }
 {
@@ -173,27 +164,29 @@ fn view_row(ws: &mut [u64; Cache::WORDS], row: usize, accessed: u64)
 }
 
 // mark_instances_viewed: each instance gets what was seen of it.
-fn view_rows(ws: &mut [u64; Cache::WORDS], held: usize, seen: &[u64; 32])
-    ensures { (s : Store) → Held s held ws.old → Held (viewed_by seen.now s) held ws.new }
+fn view_rows(x: &mut Index, seen: &[u64; Cache::ROWS])
+    ensures viewed { (s : Store) → Held s x.old.head.held x.old.words → Held (viewed_by seen.now s) x.old.head.held x.new.words }
+    ensures head_as_found { x.new.head ≡ x.old.head }
 {
-    for row in 0..index::rows_held(held) {
-        view_row(ws, row, seen[row]);
+    let shown = &seen[..index::rows_held(x.head.held)];
+    for (row, accessed) in shown.iter().enumerate() {
+        view_row(&mut x.words, row, *accessed);
     }
 }
 
 // What the call leaves in the header and the index, once its infos are made. `take` is the model's own Bool: a read and a
 // take differ in this one step.
 pub fn settle(
-    h: Cache,
-    ws: &mut [u64; Cache::WORDS],
-    slots: &[u64; 256],
+    x: &mut Index,
+    slots: &[u64; Cache::SLOTS],
     n: usize,
     take: bool,
-    seen: &[u64; 32],
-) -> Cache
-    ensures { (s : Store) → Tied s h ws.old → Tied (settled s take (run n 0 slots.now) seen.now) result ws.new }
+    seen: &[u64; Cache::ROWS],
+)
+    ensures { (s : Store) → Tied s x.old.head x.old.words → Tied (settled s take (run n 0 slots.now) seen.now) x.new.head x.new.words }
 {
-    let head = if take { free_all(h, ws, slots, n) } else { h };
-    view_rows(ws, head.held, seen);
-    head
+    if take {
+        free_all(x, slots, n);
+    }
+    view_rows(x, seen);
 }

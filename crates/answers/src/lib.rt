@@ -65,6 +65,7 @@ fn info_lines(page: &mut Page, infos: &[u64; Reply::INFOS_SIZE], n: usize)
     ensures told { (xs : List Info) → Shown n infos.now xs → Lays page.old (printed (model.infos xs)) page.new }
 {
     printing::samples_line(page, n as u64);
+    // By place: an info is read off the lent words by its place.
     for p in 0..n {
         printing::info_line(page, infos::get_info(infos, p));
     }

@@ -5,7 +5,7 @@
 ghost use Rattle.std.specs.Prelude.{◌<◌, ◌≤◌};
 
 use datasample_cache::Added;
-use index::Cache;
+use index::{Cache, Index};
 use infos::InfoWords;
 use refusals::Refusal;
 use sampleinfo::Sample;
@@ -159,7 +159,6 @@ impl Sum {
 
 #[derive(Drop)]
 struct Driver {
-    head: Cache,
     sizes: Sizes,
     // the number drawn last
     x: u32,
@@ -178,10 +177,9 @@ struct Driver {
 }
 
 impl Driver {
-    fn new(head: Cache, sizes: Sizes, seed: u32) -> Driver {
+    fn new(sizes: Sizes, seed: u32) -> Driver {
         let none = Sum { a: 0, b: 0 };
         Driver {
-            head,
             sizes,
             x: seed,
             time: 0,
@@ -224,12 +222,7 @@ impl Driver {
     }
 
     // An add to this instance.
-    fn add(
-        &mut self,
-        ws: &mut [u64; Cache::WORDS],
-        t: &mut [Sample],
-        row: Row,
-    ) -> Result<(), Refusal> {
+    fn add(&mut self, index: &mut Index, t: &mut [Sample], row: Row) -> Result<(), Refusal> {
         let r = self.draw();
         self.time = self.time.wrapping_add(r % 4);
         self.sequence = self.sequence.wrapping_add(1);
@@ -237,8 +230,7 @@ impl Driver {
         let kind = if r / 4 % 16 == 0 { 2 } else { 1 };
         let handle = (sequence % 4294967296) as u32;
         let added = datasample_cache::add(
-            self.head,
-            ws,
+            index,
             t,
             row.name(),
             [row.at as u8; 16],
@@ -247,7 +239,6 @@ impl Driver {
             kind,
             handle,
         )?;
-        self.head = added.head;
         self.put_added(row, added);
         Ok(())
     }
@@ -271,12 +262,11 @@ impl Driver {
     }
 
     // A read of drawn pairs.
-    fn read(&mut self, ws: &mut [u64; Cache::WORDS], t: &mut [Sample]) -> Result<(), Refusal> {
+    fn read(&mut self, index: &mut Index, t: &mut [Sample]) -> Result<(), Refusal> {
         let words = self.draw_list();
         let list = &self.list[..words];
-        let listed = datasample_access::read_by_keys(self.head, ws, t, list, &mut self.infos)?;
-        self.head = listed.head;
-        self.put_infos(listed.infos);
+        let n = datasample_access::read_by_keys(index, t, list, &mut self.infos)?;
+        self.put_infos(n);
         Ok(())
     }
 
@@ -293,17 +283,16 @@ impl Driver {
 
 // The sums of what the cache answered: keys and infos, and slots and handles.
 fn run(load: Load, t: &mut [Sample]) -> Result<(Sum, Sum), Refusal> {
-    let mut ws = [0; Cache::WORDS];
-    let head = datasample_cache::set_up(&mut ws, t, load.mode, load.keep, load.instances)?;
+    let mut index = datasample_cache::set_up(t, load.mode, load.keep, load.instances)?;
     let sizes = Sizes::of(load).ok_or(Refusal::OutOfBounds)?;
-    let mut driver = Driver::new(head, sizes, load.seed);
+    let mut driver = Driver::new(sizes, load.seed);
     let warm_up = driver.sizes.warm_up();
     for k in 0..warm_up + u64::from(load.operations) {
         if warm_up <= k && (k - warm_up) % 5 == 4 {
-            driver.read(&mut ws, t)?;
+            driver.read(&mut index, t)?;
         } else {
             let row = driver.target(k < warm_up);
-            driver.add(&mut ws, t, row)?;
+            driver.add(&mut index, t, row)?;
         }
     }
     Ok((driver.sum, driver.own))

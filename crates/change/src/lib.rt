@@ -8,12 +8,12 @@ ghost use Rattle.store.specs.Fit.{depth_of};
 ghost use Rattle.index.specs.Memory.{Tied, Held, fresh_store};
 ghost use Rattle.change.specs.Change.{Left, Kept, freed_at, empty_cell, emptying, cleared};
 
-use index::{Cache, Window};
+use index::{Cache, Index, Window};
 use refusals::Refusal;
 use slots::Free;
 
 // The cell of no slot.
-const NO_SLOT: u64 = 256;
+const NO_SLOT: u64 = Cache::SLOTS as u64;
 
 // ---- set-up
 
@@ -24,34 +24,36 @@ fn clear_cells(ws: &mut [u64; Cache::WORDS])
     ws[Cache::CELLS..Cache::KEYS].fill(NO_SLOT);
 }
 
-// The fresh cache, whatever the words held. The depth is 0 for no keep count.
-pub fn set_up(ws: &mut [u64; Cache::WORDS], depth: usize, room: usize) -> Cache
-    ensures { (keep : Option ℕ) → depth ≡ depth_of keep → Kept (fresh_store keep room) result ws.new }
+// The fresh cache. The depth is 0 for no keep count, as in its header.
+pub fn set_up(depth: usize, room: usize) -> Index
+    ensures { (keep : Option ℕ) → depth ≡ depth_of keep → Kept (fresh_store keep room) result.head result.words }
 {
-    *ws = [0; Cache::WORDS];
-    clear_cells(ws);
-    Cache {
+    let mut words = [0; Cache::WORDS];
+    clear_cells(&mut words);
+    let head = Cache {
         depth,
         room,
         held: 0,
         last: None,
         newest: Cache::SLOTS,
         free: Free::all(),
-    }
+    };
+    Index { head, words }
 }
 
 // ---- the no-writers event
 
 // An unknown instance is refused.
-pub fn no_writers(ws: &mut [u64; Cache::WORDS], held: usize, name: u64) -> Result<(), Refusal>
-    ensures { (s : Store) → Held s held ws.old → Left (dying s name) result ws.new }
+pub fn no_writers(x: &mut Index, name: u64) -> Result<(), Refusal>
+    ensures left { (s : Store) → Held s x.old.head.held x.old.words → Left (dying s name) result x.new.words }
+    ensures head_as_found { x.new.head ≡ x.old.head }
 {
-    let row = index::find(ws, held, name);
-    if held <= row {
+    let row = index::find(&x.words, x.head.held, name);
+    if x.head.held <= row {
         return Err(Refusal::UnknownInstance);
     }
-    let record = index::meta_at(ws, row);
-    index::put_meta(ws, row, sampleinfo::no_writers(record));
+    let record = index::meta_at(&x.words, row);
+    index::put_meta(&mut x.words, row, sampleinfo::no_writers(record));
     Ok(())
 }
 
@@ -65,6 +67,7 @@ fn without(cell: u64, slot: usize) -> u64
 }
 
 // The slot is in none of the row's cells any more.
+// Kept: cell by cell, as `emptying` is defined: a window may reach past the cells, where a store changes nothing.
 #[tactic(auto, unfolding(crate::specs::Change::emptying))]
 fn empty_cells(ws: &mut [u64; Cache::WORDS], window: Window, slot: usize)
     ensures { ws.new ≡ emptying ws.old (window.depth * window.row) slot window.depth }
@@ -77,23 +80,23 @@ fn empty_cells(ws: &mut [u64; Cache::WORDS], window: Window, slot: usize)
 }
 
 // The slot of a sample that is taken from the instance of that row. A row that is not held changes nothing.
-pub fn free_slot(h: Cache, ws: &mut [u64; Cache::WORDS], row: usize, slot: usize) -> Cache
-    ensures { (s : Store) → Tied s h ws.old → Kept (freed_at s row slot) result ws.new }
+pub fn free_slot(x: &mut Index, row: usize, slot: usize)
+    ensures { (s : Store) → Tied s x.old.head x.old.words → Kept (freed_at s row slot) x.new.head x.new.words }
 {
-    match Window::of(h.depth, row) {
-        Some(window) if row < h.held => {
-            empty_cells(ws, window, slot);
-            index::put_slot(ws, slot, 0, 0);
-            Cache {
-                newest: if h.newest == slot {
+    match Window::of(x.head.depth, row) {
+        Some(window) if row < x.head.held => {
+            empty_cells(&mut x.words, window, slot);
+            index::put_slot(&mut x.words, slot, 0, 0);
+            x.head = Cache {
+                newest: if x.head.newest == slot {
                     Cache::SLOTS
                 } else {
-                    h.newest
+                    x.head.newest
                 },
-                free: h.free.give(slot),
-                ..h
-            }
+                free: x.head.free.give(slot),
+                ..x.head
+            };
         }
-        _ => h,
+        _ => {}
     }
 }

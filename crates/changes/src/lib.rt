@@ -53,10 +53,10 @@ impl CacheChange {
 
 // ---- a change, its row and the row's words
 
-impl From<[u64; 6]> for Row {
+impl From<[u64; CacheChange::WORDS]> for Row {
     ghost from_gives = { λ x y. y ≡ row_at x 0 };
 
-    fn from(words: [u64; 6]) -> Row {
+    fn from(words: [u64; CacheChange::WORDS]) -> Row {
         let [key, seq, low, high, handle, size] = words;
         Row {
             key,
@@ -69,10 +69,10 @@ impl From<[u64; 6]> for Row {
     }
 }
 
-impl From<Row> for [u64; 6] {
+impl From<Row> for [u64; CacheChange::WORDS] {
     ghost from_gives = { λ x y. y ≡ cells x };
 
-    fn from(row: Row) -> [u64; 6] {
+    fn from(row: Row) -> [u64; CacheChange::WORDS] {
         [row.key, row.seq, row.low, row.high, row.handle, row.size]
     }
 }
@@ -89,8 +89,8 @@ impl From<Kept> for Row {
             seq: change.sequence_number,
             low: u64::from_le_bytes(halves[0]),
             high: u64::from_le_bytes(halves[1]),
-            handle: change.handle as u64,
-            size: change.payload_size as u64,
+            handle: u64::from(change.handle),
+            size: u64::from(change.payload_size),
         }
     }
 }
@@ -138,11 +138,11 @@ impl Row {
     }
 }
 
-// The rows of the held places.
-fn rows(words: &[u64; CacheChange::TABLE], held: usize) -> &[[u64; 6]]
+// The rows of the held places. (words, held) as the public functions have them; inside, the held rows are this slice.
+fn rows(words: &[u64; CacheChange::TABLE], held: usize) -> &[[u64; CacheChange::WORDS]]
     ensures { (es : List Entry) → Holds es held words.now → result.now ≡ map line_of es }
 {
-    let (rows, _) = words.as_chunks::<6>();
+    let (rows, _) = words.as_chunks::<{ CacheChange::WORDS }>();
     &rows[..held.min(rows.len())]
 }
 
@@ -187,9 +187,10 @@ pub fn drop_oldest(words: &mut [u64; CacheChange::TABLE], held: usize, n: usize)
     ensures { (es : List Entry) → Holds es held words.old → n ≤ held → words.new ≡ words_of (drop n es) }
 {
     if n <= held && held <= CacheChange::PLACES {
-        let left = 6 * (held - n);
-        words.copy_within(6 * n..6 * held, 0);
-        words[left..6 * held].fill(0);
+        let left = CacheChange::WORDS * (held - n);
+        let end = CacheChange::WORDS * held;
+        words.copy_within(CacheChange::WORDS * n..end, 0);
+        words[left..end].fill(0);
     }
 }
 
@@ -199,7 +200,9 @@ pub fn insert(words: &mut [u64; CacheChange::TABLE], at: usize, key: u64, cc: Ca
 {
     if at < CacheChange::PLACES {
         let row = Row::from(Kept { key, change: cc });
-        words[6 * at..6 * at + 6].copy_from_slice(&<[u64; 6]>::from(row));
+        let cells = <[u64; CacheChange::WORDS]>::from(row);
+        let first = CacheChange::WORDS * at;
+        words[first..first + CacheChange::WORDS].copy_from_slice(&cells);
     }
 }
 
@@ -234,9 +237,11 @@ pub fn copy_in_range(
     let found = rows(words, held)
         .iter()
         .filter(|row| in_range(row[0], start, end));
+    // By place: of `chunks_exact_mut` no clause says what the results end as.
     for (n, row) in found.enumerate() {
         if n < out.len() / CacheChange::WORDS {
-            out[6 * n..6 * n + 6].copy_from_slice(row);
+            let first = CacheChange::WORDS * n;
+            out[first..first + CacheChange::WORDS].copy_from_slice(row);
         }
     }
 }
@@ -247,7 +252,7 @@ pub fn copy_in_range(
 pub fn kept_at(out: &[u64], i: usize) -> Kept
     ensures { result ≡ kept_at out.now i }
 {
-    let (rows, _) = out.as_chunks::<6>();
+    let (rows, _) = out.as_chunks::<{ CacheChange::WORDS }>();
     match rows.get(i) {
         Some(row) => Kept::from(Row::from(*row)),
         None => Kept::default(),

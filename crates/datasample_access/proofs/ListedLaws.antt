@@ -1,5 +1,5 @@
 -- Reading and taking a list in the code is the model's: the last step of the proof.
-use Rattle.std.specs.Prelude.{◌≡◌, refl, Bool, true, false, ℕ, suc, ◌*◌, ◌/◌, ◌≤◌, ◌<◌, length, get_or, drop, replicate, ltb, leb}
+use Rattle.std.specs.Prelude.{◌≡◌, refl, MatchOption, None, Some, Bool, true, false, ℕ, suc, ◌*◌, ◌/◌, ◌≤◌, ◌<◌, length, get_or, drop, replicate, ltb, leb}
 use Rattle.std.proofs.Common.{sym, ap, ◌∙◌, arith, ltb-true, ltb-false, le-leb, lt-ltb, le-ltb}
 use Rattle.std.proofs.Math.Option.{Option, some, none}
 use mathlib.Core.List.{List, [], ◌∷◌, ◌++◌}
@@ -22,6 +22,7 @@ use Rattle.store.specs.Store.{Store, slot_named, is_held, latest_slot}
 use Rattle.index.specs.Memory.{index_of, head_of, Tied}
 use Rattle.index.specs.MemoryLaws.{few32}
 use Rattle.index.specs.declared.Cache.{Cache}
+use Rattle.index.specs.declared.Index.{Index}
 use Rattle.refine.specs.Good.{Good}
 use Rattle.refine.proofs.FitOf.{fit_of}
 use Rattle.refine.specs.Layout.{inst_of, store_of, table_of}
@@ -50,8 +51,7 @@ use Rattle.refusals.specs.declared.Refusal.{Refusal}
 use Rattle.refusals.specs.declared.Refusal.TheVariants.{Malformed}
 use Rattle.change.specs.Change.{code_of}
 use Rattle.index.specs.Words.{slot_in}
-use Rattle.datasample_access.specs.declared.Listed.{Listed}
-use Rattle.datasample_access.specs.Listed.{Told, listing, Came, not_listed, Unfit, no_table, odd, listed_with, touched_all, ranking_of, Served}
+use Rattle.datasample_access.specs.Listed.{Told, listing, Came, not_listed, Unfit, no_table, odd, touched_all, ranking_of, Served}
 use Rattle.datasample_access.specs.SlotLaws.{run-front, Owned, RankedBy, infos-slots, last-total, noted-all, zero-at, viewed-same, freed-each, touched-take, touched-read}
 use Rattle.datasample_access.specs.FewLaws.{few-pairs}
 
@@ -64,6 +64,10 @@ peek-slot t n l = go (dec_lt n 256)
     go : Dec (n < 256) → peek_at t (unwrap_or (slot_in n) 256) ≡ peek_at t n
     go (yes h) = rw (lt-ltb n 256 h)
     go (no h) = rw (le-ltb n 256 (omega arith)) (get_or-eq_default t empty_sample {n = 256} (omega arith) ∙ sym (get_or-eq_default t empty_sample {n = n} (omega arith)))
+
+pub latest-of : (t : List Sample) (last : the_code.Option ℕ) (x : Sample) → length t ≡ 256 → MatchOption last (x ≡ empty_sample) (λ i. x ≡ peek_at t i) → x ≡ peek_at t (unwrap_or last 256)
+latest-of t None x l m = m ∙ sym (get_or-eq_default t empty_sample {n = 256} (omega (arith, l)))
+latest-of t (Some i) x l m = m
 
 pub serve-done : (h r : Cache) (take : Bool) (n : ℕ) (slots ws words : List ℕ) (t table : List Sample) (out after : List ℕ) (last : the_code.Option ℕ) (x : Sample) (mrsic : NotAliveGenerationCounts) (ranking : Ranking) (seen noted : List ℕ)
     → after ≡ put_infos out 0 (infos_by ws t ranking (run n 0 slots)) → noted ≡ noted_all ws t seen (run n 0 slots) → seen ≡ replicate 32 0 → ranking ≡ ranking_of x mrsic → x ≡ peek_at t (unwrap_or last 256)
@@ -271,17 +275,17 @@ module _ (m : Model) (g : Good m) (h : Cache) (ws : List ℕ) (t : List Sample) 
     length-made : length (infos_for m ps) ≡ n
     length-made = ap length (infos-is m g ps live) ∙ length-infos by_the_rust s (table_of m) ks ks ∙ sym length-ks
 
-    told : (r : Cache) (out after : List ℕ) → after ≡ words_of_infos (infos_for m ps) ++ drop (27 * length (infos_for m ps)) out → Told (access take m ps).answer (Ok (listed_with r n)) out after
+    told : (out after : List ℕ) → after ≡ words_of_infos (infos_for m ps) ++ drop (27 * length (infos_for m ps)) out → Told (access take m ps).answer (Ok n) out after
     unfolding access infos_then
-    told r out after q = (sym length-made, q)
+    told out after q = (sym length-made, q)
 
     came-done : (r : Cache) (words : List ℕ) (table : List Sample) (out after : List ℕ) → n ≤ places_in out → Served s take n (ks ++ rest) ws t out r words table after
-        → Came (access take m ps) h (Ok (listed_with r n)) words table out after
+        → Came (access take m ps) (Ok n) r words table out after
     came-done r words table out after room v =
         let run_is : run n 0 (ks ++ rest) ≡ ks = run-front n ks rest length-ks (omega arith) in
         let k : Tied (settled s take ks (noted_all ws t (replicate 32 0) ks)) r words = rw run_is at v.tied in
         record {
-          answer = told r out after (v.infos ∙ ap (λ (x : List ℕ). put_infos out 0 (infos_by ws t ranking x)) run_is ∙ ap (put_infos out 0) infos-made ∙ put_all out (infos_for m ps) (omega (arith, length-made)));
+          answer = told out after (v.infos ∙ ap (λ (x : List ℕ). put_infos out 0 (infos_by ws t ranking x)) run_is ∙ ap (put_infos out 0) infos-made ∙ put_all out (infos_for m ps) (omega (arith, length-made)));
           lies = record {
             head = k.head ∙ ap head_of store_is;
             words = k.words ∙ ap index_of store_is;
@@ -296,14 +300,14 @@ module _ (h : Cache) (ws : List ℕ) (t : List Sample) (list out : List ℕ) (ta
   full : length slots ≡ 256
   full = ap length long ∙ length-replicate {A = ℕ} 256 0
 
-  pub came-declined : (e : Refusal) → k ≡ Err e → (m : Model) → Good m → Lies m h ws t → Came (listing m take list (places_in out)) h (Err e) ws t out out
+  pub came-declined : (e : Refusal) → k ≡ Err e → (m : Model) → Good m → Lies m h ws t → Came (listing m take list (places_in out)) (Err e) h ws t out out
   came-declined e p m g l =
       let x : refusal.number_of e ≡ list_refusal (store_of m) list room = sym (ap code_of p) ∙ (f.tied (store_of m) full (tied m h ws t g l)).number in
       let st : listing m take list room ≡ refuse m (list_refusal (store_of m) list room) = (verdict m g take list room slots).0 (λ z. omega (arith, number-above-0 e, x, z)) in
       rw (← q, st, ← x) (record { answer = (refl, refl); lies = l })
 
   pub came-listed : (x : Unit {0}) → k ≡ Ok x → (head : Cache) (words : List ℕ) (table : List Sample) (end : List ℕ) → ((z : Store) → Tied z h ws → Served z take (length list / 2) after ws t out head words table end)
-      → (m : Model) → Good m → Lies m h ws t → Came (listing m take list (places_in out)) h (Ok (listed_with head (length list / 2))) words table out end
+      → (m : Model) → Good m → Lies m h ws t → Came (listing m take list (places_in out)) (Ok (length list / 2)) head words table out end
   came-listed x p head words table end v m g l =
       let c : Refuses (store_of m) list room k slots after = f.tied (store_of m) full (tied m h ws t g l) in
       let a : Accepts m g take list room slots = (verdict m g take list room slots).1 (sym c.number ∙ ap code_of p) in
@@ -312,15 +316,15 @@ module _ (h : Cache) (ws : List ℕ) (t : List Sample) (list out : List ℕ) (ta
       (came-done m g h ws t l take (pairs_of list) a.fine-list (length list / 2) (sym (length_pairs list)) a.few (drop (length (pairs_of list)) slots) head words table out end
       (omega (arith, a.enough, length_pairs list)) sv)
 
-pub came-no-table : (h : Cache) (ws : List ℕ) (t : List Sample) (list out : List ℕ) (take : Bool) (r : Result Listed Refusal) → (length t ≡ 256 → ⊥) → (m : Model) → Good m → Lies m h ws t
-    → Came (listing m take list (places_in out)) h r ws t out out
+pub came-no-table : (h : Cache) (ws : List ℕ) (t : List Sample) (list out : List ℕ) (take : Bool) (r : Result ℕ Refusal) → (length t ≡ 256 → ⊥) → (m : Model) → Good m → Lies m h ws t
+    → Came (listing m take list (places_in out)) r h ws t out out
 came-no-table h ws t list out take r n m g l = absurd (n (table-long m h ws t l))
 
 -- refusal 1 on any memory
-pub odd-declined : (h : Cache) (ws : List ℕ) (t : List Sample) (list out : List ℕ) (room : ℕ) (k : Result Unit Refusal) (slots after : List ℕ) (e : Refusal) → Judges h ws list room k slots after → k ≡ Err e
-    → length t ≡ 256 → Unfit t list → (Err e ≡ not_listed) × (ws ≡ ws) × (t ≡ t) × (out ≡ out)
-odd-declined h ws t list out room k slots after e f p long (no_table n) = absurd (n long)
-odd-declined h ws t list out room k slots after e f p long (odd w) = let z : ◌≡◌ {A = Result Unit Refusal} (Err e) (Err Malformed) = sym p ∙ f.odd w in let x : e ≡ Malformed = cc in (ap Err x, refl, refl, refl)
+pub odd-declined : (x : Index) (t : List Sample) (list out : List ℕ) (room : ℕ) (k : Result Unit Refusal) (slots after : List ℕ) (e : Refusal) → Judges x.head x.words list room k slots after → k ≡ Err e
+    → length t ≡ 256 → Unfit t list → (Err e ≡ not_listed) × (x ≡ x) × (t ≡ t) × (out ≡ out)
+odd-declined x t list out room k slots after e f p long (no_table n) = absurd (n long)
+odd-declined x t list out room k slots after e f p long (odd w) = let z : ◌≡◌ {A = Result Unit Refusal} (Err e) (Err Malformed) = sym p ∙ f.odd w in let s : e ≡ Malformed = cc in (ap Err s, refl, refl, refl)
 
 pub odd-not-served : (h : Cache) (ws : List ℕ) (t : List Sample) (list : List ℕ) (room : ℕ) (k : Result Unit Refusal) (slots after : List ℕ) (A : Type 0) (x : Unit {0}) → Judges h ws list room k slots after → k ≡ Ok x
     → length t ≡ 256 → Unfit t list → A

@@ -18,12 +18,11 @@ use Rattle.std.specs.declared.result.Result.TheVariants.{Ok, Err}
 use Rattle.refusals.specs.Numbers.{number_of}
 use Rattle.refusals.specs.declared.Refusal.{Refusal}
 use Rattle.refusals.specs.declared.Refusal.TheVariants as refusal
-use Rattle.datasample_access.specs.declared.Listed.{Listed}
 
 -- document 01's answer: the infos stand first in the result buffer, and "Result places past the answer keep what they held"; a refusal
 -- "returns its number only; state and lent buffers stay as found"
-abbrev pub Told : Answer → Result Listed Refusal → List ℕ → List ℕ → Type 0
-Told (M.infos xs) (Ok x) out after = (x.infos ≡ length xs) × (after ≡ infos_then out xs)
+abbrev pub Told : Answer → Result ℕ Refusal → List ℕ → List ℕ → Type 0
+Told (M.infos xs) (Ok n) out after = (n ≡ length xs) × (after ≡ infos_then out xs)
 Told (M.infos xs) (Err e) out after = ⊥
 Told (M.refused n) (Ok x) out after = ⊥
 Told (M.refused n) (Err e) out after = (number_of e ≡ n) × (after ≡ out)
@@ -37,27 +36,19 @@ unfoldable pub listing : Model → Bool → List ℕ → ℕ → Step
 unfolding step pairs_of whole_pairs
 listing m take list room = let done : Step = step m (Call.read_or_take take (pairs_of list) room) in cond (whole_pairs list) done (refuse m 1)
 
--- a refusal leaves the header as found
-abbrev pub head_after : Cache → Result Listed Refusal → Cache
-head_after h (Ok x) = x.head
-head_after h (Err e) = h
-
-pub record Came (st : Step) (h : Cache) (r : Result Listed Refusal) (ws : List ℕ) (t : List Sample) (out after : List ℕ) : Type 0 where
+pub record Came (st : Step) (r : Result ℕ Refusal) (h : Cache) (ws : List ℕ) (t : List Sample) (out after : List ℕ) : Type 0 where
   pub answer : Told st.answer r out after
-  pub lies : Lies st.then (head_after h r) ws t
+  pub lies : Lies st.then h ws t
 
 -- ---- the steps of the code
 
-abbrev pub not_listed : Result Listed Refusal
+abbrev pub not_listed : Result ℕ Refusal
 not_listed = Err refusal.Malformed
 
 -- refusal 1, whatever lies in memory: "sample table not 256 records, key list not of whole pairs"
 pub data Unfit (t : List Sample) (list : List ℕ) : Type 0 where
   no_table : (length t ≡ 256 → ⊥) → Unfit t list
   odd : whole_pairs list ≡ false → Unfit t list
-
-abbrev pub listed_with : Cache → ℕ → Listed
-listed_with h n = record { head = h; infos = n }
 
 -- the slots touched one after the other
 unfoldable pub touched_all : List Sample → Bool → List ℕ → List Sample

@@ -25,14 +25,9 @@ abbrev pub added_as : Result Added Refusal → Answer
 added_as (Ok a) = added a.key a.slot (evicted_as a.evicted)
 added_as (Err e) = refused (number_of e)
 
--- a refusal leaves the header as found
-abbrev pub head_after : Cache → Result Added Refusal → Cache
-head_after h (Ok a) = a.head
-head_after h (Err e) = h
-
-pub record Came (st : Step) (h : Cache) (r : Result Added Refusal) (ws : List ℕ) (t : List Sample) : Type 0 where
+pub record Came (st : Step) (r : Result Added Refusal) (h : Cache) (ws : List ℕ) (t : List Sample) : Type 0 where
   pub answer : added_as r ≡ st.answer
-  pub lies : Lies st.then (head_after h r) ws t
+  pub lies : Lies st.then h ws t
 
 -- the handle of the record that was in the slot pushed out
 abbrev pub evicted_of : the_code.Option ℕ → Sample → the_code.Option ℕ

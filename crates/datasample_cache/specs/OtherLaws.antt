@@ -14,6 +14,7 @@ use Rattle.store.specs.Store.{Store}
 use Rattle.store.specs.Fit as F
 use Rattle.index.specs.Memory.{Held, View, fresh_store, head_of, index_of}
 use Rattle.index.specs.declared.Cache.{Cache}
+use Rattle.index.specs.declared.Index.{Index}
 use Rattle.change.specs.Change.{Left, Kept}
 use Rattle.refine.specs.Good.{Good}
 use Rattle.refine.specs.Layout.{store_of, table_of, slots_of, tab_from, look_up, entries_from}
@@ -83,19 +84,19 @@ module _ (mode : ℕ) (keep : ℤ) (i : ℕ) (fits : SFits w32 keep) (o : the_co
 
 -- ---- the returns of set-up
 
-module _ (u : SetUp) (ws : List ℕ) (t : List Sample) where
+module _ (u : SetUp) (t : List Sample) where
   module _ (long : length t ≡ 256) (o : the_code.Option ℕ) (e : o ≡ depth_in u) (r : Result ℕ Refusal) (f : r ≡ ok_or o refusal.OutOfBounds) where
     asked : r ≡ ok_or (depth_in u) refusal.OutOfBounds
     asked = f ∙ ap (λ (x : the_code.Option ℕ). ok_or x refusal.OutOfBounds) e
 
-    pub set-done : (d j : ℕ) → r ≡ Ok d → j ≡ u.instances → (h : Cache) (after : List ℕ) (then : List Sample) → ((k : Option ℕ) → d ≡ F.depth_of k → Kept (fresh_store k j) h after)
-        → (length t ≡ 256 → then ≡ empty_table) → SetsUp u (Ok h) ws after t then
-    set-done d j p q h after then m n =
+    pub set-done : (d j : ℕ) → r ≡ Ok d → j ≡ u.instances → (y : Index) (then : List Sample) → ((k : Option ℕ) → d ≡ F.depth_of k → Kept (fresh_store k j) y.head y.words)
+        → (length t ≡ 256 → then ≡ empty_table) → SetsUp u (Ok y) t then
+    set-done d j p q y then m n =
         let x : (within u ≡ true) × (d ≡ F.depth_of (keep_of u)) = inside (within u) (sym asked ∙ p) in
-        let k : Kept (fresh_store (keep_of u) u.instances) h after = rw q at (m (keep_of u) x.1) in
+        let k : Kept (fresh_store (keep_of u) u.instances) y.head y.words = rw q at (m (keep_of u) x.1) in
         record {
           accepted = λ l w. (
-            h,
+            y,
             (
               refl,
               record {
@@ -114,9 +115,9 @@ module _ (u : SetUp) (ws : List ℕ) (t : List Sample) where
         inside false q = cc
 
 -- an accepted set-up leaves this table
-pub set-up-table : (u : SetUp) (r : Result Cache Refusal) (ws after : List ℕ) (t then : List Sample)
-    → SetsUp u r ws after t then → length t ≡ 256 → within u ≡ true → then ≡ empty_table
-set-up-table u r ws after t then f l w = (f.accepted l w).1.1.table ∙ fresh-table (keep_of u) u.instances
+pub set-up-table : (u : SetUp) (r : Result Index Refusal) (t then : List Sample)
+    → SetsUp u r t then → length t ≡ 256 → within u ≡ true → then ≡ empty_table
+set-up-table u r t then f l w = (f.accepted l w).1.1.table ∙ fresh-table (keep_of u) u.instances
 
 -- ---- the no-writers event
 

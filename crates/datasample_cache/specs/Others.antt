@@ -12,6 +12,7 @@ use Rattle.sampleinfo.specs.declared.Sample.{Sample}
 use Rattle.model.specs.Model.{Answer, refused, ok, next, Step, SetUp, within, keep_of, fresh}
 use Rattle.store.specs.Fit.{depth_of}
 use Rattle.index.specs.declared.Cache.{Cache}
+use Rattle.index.specs.declared.Index.{Index}
 use Rattle.memory.specs.Lies.{Lies}
 
 -- document 01's number of each answer
@@ -40,11 +41,11 @@ kept_in mode depth = cond (eqb mode 3) 0 (cond (eqb mode 4) 1 depth)
 abbrev pub depth_in : SetUp → Option ℕ
 depth_in u = cond (within u) (Some (depth_of (keep_of u))) None
 
--- "An accepted set-up makes the cache fresh"; a refused one leaves index and table as found, and hands out no header
-pub record SetsUp (u : SetUp) (r : Result Cache Refusal) (ws after : List ℕ) (t then : List Sample) : Type 0 where
-  pub accepted : length t ≡ 256 → within u ≡ true → (h : Cache) × ((r ≡ Ok h) × Lies (fresh (keep_of u) u.instances) h after then)
-  pub out-of-bounds : length t ≡ 256 → within u ≡ false → (r ≡ Err refusal.OutOfBounds) × (after ≡ ws) × (then ≡ t)
-  pub no_table : (length t ≡ 256 → ⊥) → (r ≡ Err refusal.Malformed) × (after ≡ ws) × (then ≡ t)
+-- "An accepted set-up makes the cache fresh"; a refused one leaves the table as found, and hands out no index
+pub record SetsUp (u : SetUp) (r : Result Index Refusal) (t then : List Sample) : Type 0 where
+  pub accepted : length t ≡ 256 → within u ≡ true → (x : Index) × ((r ≡ Ok x) × Lies (fresh (keep_of u) u.instances) x.head x.words then)
+  pub out-of-bounds : length t ≡ 256 → within u ≡ false → (r ≡ Err refusal.OutOfBounds) × (then ≡ t)
+  pub no_table : (length t ≡ 256 → ⊥) → (r ≡ Err refusal.Malformed) × (then ≡ t)
 
 -- ---- the no-writers event: the header and the table stay
 pub record Dies (st : Step) (r : Result Unit Refusal) (h : Cache) (ws : List ℕ) (t : List Sample) : Type 0 where

@@ -1,7 +1,7 @@
 -- The calls: what each return answers and leaves is what the model's step answers and leaves.
 use Rattle.std.proofs.Math.Path.{◌≡◌, refl, ap}
 use Rattle.std.proofs.Common.{sym, ◌∙◌, subst, true≢false, arith, length-append}
-use Rattle.std.specs.Prelude.{Some, None, Bool, ◌||◌, ℕ, ◌-◌, ◌*◌, ◌/◌, ◌%◌, ◌≤◌, ◌<◌, eqb, drop}
+use Rattle.std.specs.Prelude.{Some, None, ok_or, Bool, ◌||◌, ℕ, ◌-◌, ◌*◌, ◌/◌, ◌%◌, ◌≤◌, ◌<◌, eqb, drop}
 use Rattle.std.proofs.Math.Bool.{true, false, cond}
 use mathlib.Core.List.{List, [], ◌∷◌, ◌++◌}
 use Rattle.std.proofs.Math.Option.{some, none}
@@ -211,6 +211,22 @@ module _ (h : TopicCache) (es : List Entry) (t : ℕ) (x : CacheChange) (n : ℕ
             tied = record { head = ap shown q ∙ ap (λ (y : ℕ). record { limits = limits_of h.limits; last = Some k; held = y }) long; words = w };
           })
 
+-- the key that a `?` takes
+module _ (i : Issued) (got : Result ℕ Refusal) (g : got ≡ ok_or i refusal.NoLaterKey) where
+  key-none : (e : Refusal) → got ≡ Err e → (i ≡ None) × (refusal.NoLaterKey ≡ e)
+  key-none e z = go i refl
+    where
+      go : (p : Issued) → i ≡ p → (i ≡ None) × (refusal.NoLaterKey ≡ e)
+      go None q = let same : ◌≡◌ {A = Result ℕ Refusal} (Err refusal.NoLaterKey) (Err e) = sym (rw q at g) ∙ z in (q, cc)
+      go (Some k) q = let no : ◌≡◌ {A = Result ℕ Refusal} (Ok k) (Err e) = sym (rw q at g) ∙ z in absurd (cc)
+
+  key-some : (k : ℕ) → got ≡ Ok k → i ≡ Some k
+  key-some k z = go i refl
+    where
+      go : (p : Issued) → i ≡ p → i ≡ Some k
+      go None q = let no : ◌≡◌ {A = Result ℕ Refusal} (Err refusal.NoLaterKey) (Ok k) = sym (rw q at g) ∙ z in absurd (cc)
+      go (Some y) q = let same : ◌≡◌ {A = Result ℕ Refusal} (Ok y) (Ok k) = sym (rw q at g) ∙ z in let told : y ≡ k = cc in q ∙ ap Some told
+
 -- the same, as the code meets them
 module _ (h : TopicCache) (es : List Entry) (ws : List ℕ) (t : ℕ) (x : CacheChange) (n : ℕ) (b : Bool)
     (count : (es : List Entry) → Holds es h.held ws → n ≡ drops_for (limits_of h.limits) es x.sequence_number x.payload_size)
@@ -219,17 +235,20 @@ module _ (h : TopicCache) (es : List Entry) (ws : List ℕ) (t : ℕ) (x : Cache
   unfolding Internal
   add-held e k after q w o v m = came_held h es t x n (count es o) ws o (sym (find es o v) ∙ e) k after q (w es o)
 
-  pub add_six : b ≡ false → (i : Issued) → i ≡ key_of h.last_added_instant t → i ≡ None → Internal h es ws t x (Err refusal.NoLaterKey) ws
+  pub add_six : b ≡ false → (i : Issued) → i ≡ key_of h.last_added_instant t → (got : Result ℕ Refusal) → got ≡ ok_or i refusal.NoLaterKey → (r : Refusal) → got ≡ Err r
+      → Internal h es ws t x (Err r) ws
   unfolding Internal
-  add_six e i p q o v m = came-six h es t x n (count es o) ws o (sym (find es o v) ∙ e) (sym p ∙ q)
+  add_six e i p got y r q o v m =
+      let z : (i ≡ None) × (refusal.NoLaterKey ≡ r) = key-none i got y r q in
+      rw (← z.1) (came-six h es t x n (count es o) ws o (sym (find es o v) ∙ e) (sym p ∙ z.0))
 
-  pub add-key : b ≡ false → (i : Issued) → i ≡ key_of h.last_added_instant t → (k : ℕ) → i ≡ Some k → (g : TopicCache) (after : List ℕ)
+  pub add-key : b ≡ false → (i : Issued) → i ≡ key_of h.last_added_instant t → (got : Result ℕ Refusal) → got ≡ ok_or i refusal.NoLaterKey → (k : ℕ) → got ≡ Ok k → (g : TopicCache) (after : List ℕ)
       → g ≡ inserted h n k → ((es : List Entry) → Holds es h.held ws → length (drop n es) < 384 → after ≡ words_of (drop n es ++ (entry_of x k ∷ [])))
       → Internal h es ws t x (Ok (record { cache = g; answer = added.Key k })) after
   unfolding Internal
-  add-key e i p k q g after u w o v m =
+  add-key e i p got y k q g after u w o v m =
       let f : length (drop n es) < places = room h es t x n (count es o) o.few m in
-      came-key h es t x n (count es o) ws o (sym (find es o v) ∙ e) k (sym p ∙ q) g after u (w es o f) f
+      came-key h es t x n (count es o) ws o (sym (find es o v) ∙ e) k (sym p ∙ key-some i got y k q) g after u (w es o f) f
 
 module _ (c : Topic) (h : TopicCache) (ws : List ℕ) (t : ℕ) (x : CacheChange) (f : Fit c) (d : Tied c h ws) (b : Bool) (e : b ≡ seq_fits x.sequence_number) where
   pub add-bad : b ≡ false → Came (step c (add (change_of t x))) h (Err refusal.Malformed) ws
@@ -247,8 +266,10 @@ module _ (h : TopicCache) (ws : List ℕ) where
   pub refusing-held : (k : TopicCache) (after : List ℕ) → Refusing h ws (Ok (record { cache = k; answer = added.HeldAlready })) after
   refusing-held k after n e = let z : ◌≡◌ {A = ℕ} 0 1 = cc in absurd (omega arith)
 
-  pub refusing-six : Refusing h ws (Err refusal.NoLaterKey) ws
-  refusing-six n e = let p : 6 ≡ n = cc in (sym p, refl, refl)
+  pub refusing-six : (i : Issued) (got : Result ℕ Refusal) → got ≡ ok_or i refusal.NoLaterKey → (r : Refusal) → got ≡ Err r → Refusing h ws (Err r) ws
+  refusing-six i got y r q =
+      let z : (i ≡ None) × (refusal.NoLaterKey ≡ r) = key-none i got y r q in
+      rw (← z.1) (λ n e. let p : 6 ≡ n = cc in (sym p, refl, refl))
 
   pub refusing-key : (k : ℕ) (g : TopicCache) (after : List ℕ) → Refusing h ws (Ok (record { cache = g; answer = added.Key k })) after
   refusing-key k g after n e = let z : ◌≡◌ {A = ℕ} 0 1 = cc in absurd (omega arith)

@@ -104,7 +104,7 @@ impl KeepLimits {
     }
 }
 
-// Garbage collect more often when samples are large.
+// Garbage collect more often when samples are large. A match over the payload ranges, by the rule.
 #[tactic(auto, using(crate::specs::LimitLaws::every))]
 fn modulus(payload_size: u32) -> u64
     ensures { result ≡ collect_every payload_size }
@@ -116,7 +116,7 @@ fn modulus(payload_size: u32) -> u64
     }
 }
 
-// One place further; there are no more than 384.
+// One place further; there are no more than 384. Not `min`: a number that no call makes stays as it is, as `behind` says.
 fn behind_last(at: usize) -> usize
     ensures { result ≡ behind at }
 {
@@ -251,9 +251,7 @@ impl TopicCache {
                 answer: Added::HeldAlready,
             });
         }
-        let Some(key) = keys::next(self.last_added_instant, instant) else {
-            return Err(Refusal::NoLaterKey);
-        };
+        let key = keys::next(self.last_added_instant, instant).ok_or(Refusal::NoLaterKey)?;
         Ok(Outcome {
             cache: self.insert(words, n, key, cc),
             answer: Added::Key(key),

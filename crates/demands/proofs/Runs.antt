@@ -36,8 +36,8 @@ pub code_runs : {u : SetUp} {d : Option ℕ} {cs : List Call} {ss : List Seen} {
 unfolding run
 code_runs {u = u} {d = d} {cs = cs} {ss = ss} {z = z} r =
     let w : (within u ≡ true) × (keep_of u ≡ d) = passes r in
-    let x : Holds (made (keep_of u) u) (holding (begun r.head r.outcome) r.words'.now r.table'.now) =
-    set-up-begins r.head r.words r.words' r.table r.table' u r.outcome r.long w.0 r.set-up in
+    let x : Holds (made (keep_of u) u) (holding (begun r.index r.outcome) r.table'.now) =
+    set-up-begins r.index r.table r.table' u r.outcome r.long w.0 r.set-up in
     subst (λ k. Agree ss (answers (made k u) cs) × Holds (run (made k u) cs) z) w.1 (calls-from r.calls (made (keep_of u) u) (good-run u w.0 []) x)
 
 pub code-demand3 : {u : SetUp} {d : Option ℕ} {cs : List Call} {ss : List Seen} {z : Memory} → Runs u d cs ss z → Kept3 u d cs ss z

@@ -8,7 +8,6 @@ use Rattle.memory.specs.Lies.{Lies}
 use Rattle.datasample_access.specs.Listed.{Told}
 use Rattle.std.specs.declared.result.Result.{Result}
 use Rattle.refusals.specs.declared.Refusal.{Refusal}
-use Rattle.datasample_access.specs.declared.Listed.{Listed}
 
 -- what the caller holds between two calls: the header, the lent words and the lent table
 pub record Memory : Type 0 where
@@ -22,7 +21,7 @@ Holds m x = Lies m x.head x.words x.table
 -- what the caller sees of an answer: its number and values, or, of a read or a take, the result buffer before and after too
 pub data Seen : Type 0 where
   said : Answer → Seen
-  shown : Result Listed Refusal → List ℕ → List ℕ → Seen
+  shown : Result ℕ Refusal → List ℕ → List ℕ → Seen
 
 abbrev pub Means : Seen → Answer → Type 0
 Means (said a) b = a ≡ b

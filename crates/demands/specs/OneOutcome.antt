@@ -7,7 +7,8 @@ use Rattle.sampleinfo.specs.declared.Sample.{Sample}
 use Rattle.slots.specs.FreeLaws.{Whole}
 use Rattle.model.specs.Model.{Model, SetUp, Step, Answer, within, keep_of, fresh}
 use Rattle.index.specs.declared.Cache.{Cache}
-use Rattle.memory.specs.Lies.{one-memory}
+use Rattle.index.specs.declared.Index.{Index}
+use Rattle.memory.specs.Lies.{one-memory, one-index}
 use Rattle.select.specs.Told.{Told}
 use Rattle.select.specs.ToldLaws as select
 use Rattle.std.specs.declared.option.Option as the_code
@@ -20,8 +21,7 @@ use Rattle.refusals.specs.declared.Refusal.{Refusal}
 use Rattle.refusals.specs.declared.Refusal.TheVariants as refusal
 use Rattle.datasample_access.specs.Listed as list
 use Rattle.datasample_access.specs.OneOutcome as access
-use Rattle.datasample_access.specs.declared.Listed.{Listed}
-use Rattle.datasample_cache.specs.Came.{evicted_as, added_as, head_after, Came}
+use Rattle.datasample_cache.specs.Came.{evicted_as, added_as, Came}
 use Rattle.datasample_cache.specs.Others.{reply_as, next_as, SetsUp, Dies}
 use Rattle.datasample_cache.specs.declared.Added.{Added}
 use Rattle.demands.specs.Calls.{begun}
@@ -34,20 +34,20 @@ evicted-same (Some h) None e = cc
 evicted-same None (Some k) e = cc
 evicted-same None None e = refl
 
-made : Cache → ℕ → ℕ → the_code.Option ℕ → Result Added Refusal
-made h k s x = Ok (record { head = h; key = k; slot = s; evicted = x })
+made : ℕ → ℕ → the_code.Option ℕ → Result Added Refusal
+made k s x = Ok (record { key = k; slot = s; evicted = x })
 
-added-same : (h j : Cache) (a b : Result Added Refusal) → added_as a ≡ added_as b → head_after h a ≡ head_after j b → a ≡ b
+added-same : (a b : Result Added Refusal) → added_as a ≡ added_as b → a ≡ b
 unfolding made
-added-same h j (Ok x) (Ok y) e f =
+added-same (Ok x) (Ok y) e =
     let p : x.key ≡ y.key = cc in
     let q : x.slot ≡ y.slot = cc in
     let g : evicted_as x.evicted ≡ evicted_as y.evicted = cc in
-    let whole : made x.head x.key x.slot x.evicted ≡ made y.head y.key y.slot y.evicted = rw (f, p, q, evicted-same x.evicted y.evicted g) in
+    let whole : made x.key x.slot x.evicted ≡ made y.key y.slot y.evicted = rw (p, q, evicted-same x.evicted y.evicted g) in
     whole
-added-same h j (Ok x) (Err n) e f = cc
-added-same h j (Err n) (Ok x) e f = cc
-added-same h j (Err n) (Err k) e f = let p : number_of n ≡ number_of k = cc in ap Err (same-refusal n k p)
+added-same (Ok x) (Err n) e = cc
+added-same (Err n) (Ok x) e = cc
+added-same (Err n) (Err k) e = let p : number_of n ≡ number_of k = cc in ap Err (same-refusal n k p)
 
 reply-same : (a b : Result Unit Refusal) → reply_as a ≡ reply_as b → a ≡ b
 reply-same (Ok x) (Ok y) e = refl
@@ -63,11 +63,11 @@ next-same None None e = refl
 
 -- ---- outcomes
 
-pub one-add : (st : Step) (h j : Cache) (r q : Result Added Refusal) (v w : List ℕ) (t u : List Sample) → Whole (head_after h r).free → Whole (head_after j q).free → Came st h r v t → Came st j q w u
-    → (r ≡ q) × (head_after h r ≡ head_after j q) × (v ≡ w) × (t ≡ u)
-one-add st h j r q v w t u x y a b =
-    let m : (head_after h r ≡ head_after j q) × (v ≡ w) × (t ≡ u) = one-memory st.then (head_after h r) (head_after j q) v w t u x y a.lies b.lies in
-    (added-same h j r q (a.answer ∙ sym b.answer) m.0, m.0, m.1, m.2)
+pub one-add : (st : Step) (r q : Result Added Refusal) (h j : Cache) (v w : List ℕ) (t u : List Sample) → Whole h.free → Whole j.free → Came st r h v t → Came st q j w u
+    → (r ≡ q) × (h ≡ j) × (v ≡ w) × (t ≡ u)
+one-add st r q h j v w t u x y a b =
+    let m : (h ≡ j) × (v ≡ w) × (t ≡ u) = one-memory st.then h j v w t u x y a.lies b.lies in
+    (added-same r q (a.answer ∙ sym b.answer), m.0, m.1, m.2)
 
 pub one-no-writers : (st : Step) (r q : Result Unit Refusal) (h : Cache) (v w : List ℕ) (t : List Sample) → Dies st r h v t → Dies st q h w t → (r ≡ q) × (v ≡ w)
 one-no-writers st r q h v w t a b = (reply-same r q (a.answer ∙ sym b.answer), a.lies.words ∙ sym b.lies.words)
@@ -76,23 +76,23 @@ pub one-next-key : (m : Model) (st : Step) (r q : the_code.Option ℕ) → st �
 one-next-key m st r q a b = next-same r q (ap (λ (s : Step). s.answer) (sym a ∙ b))
 
 -- a set-up, on any memory
-pub one-set-up : (u : SetUp) (h : Cache) (r q : Result Cache Refusal) (ws v w : List ℕ) (t k n : List Sample) → Whole (begun h r).free → Whole (begun h q).free → SetsUp u r ws v t k → SetsUp u q ws w t n
-    → (r ≡ q) × (v ≡ w) × (k ≡ n)
-one-set-up u h r q ws v w t k n x y a b = go (ℕ_discrete (length t) 256)
+pub one-set-up : (u : SetUp) (i : Index) (r q : Result Index Refusal) (t k n : List Sample) → Whole (begun i r).head.free → Whole (begun i q).head.free → SetsUp u r t k → SetsUp u q t n
+    → (r ≡ q) × (k ≡ n)
+one-set-up u i r q t k n x y a b = go (ℕ_discrete (length t) 256)
   where
     -- both are as found
-    left : (e : Refusal) → (r ≡ Err e) × (v ≡ ws) × (k ≡ t) → (q ≡ Err e) × (w ≡ ws) × (n ≡ t) → (r ≡ q) × (v ≡ w) × (k ≡ n)
-    left e f g = (f.0 ∙ sym g.0, f.1 ∙ sym g.1, f.2 ∙ sym g.2)
+    left : (e : Refusal) → (r ≡ Err e) × (k ≡ t) → (q ≡ Err e) × (n ≡ t) → (r ≡ q) × (k ≡ n)
+    left e f g = (f.0 ∙ sym g.0, f.1 ∙ sym g.1)
 
-    whole : length t ≡ 256 → (z : Bool) → within u ≡ z → (r ≡ q) × (v ≡ w) × (k ≡ n)
+    whole : length t ≡ 256 → (z : Bool) → within u ≡ z → (r ≡ q) × (k ≡ n)
     whole l true e =
         let f = a.accepted l e in
         let g = b.accepted l e in
-        let m : (f.0 ≡ g.0) × (v ≡ w) × (k ≡ n) = one-memory (fresh (keep_of u) u.instances) f.0 g.0 v w k n (rw f.1.0 at x) (rw g.1.0 at y) f.1.1 g.1.1 in
-        (f.1.0 ∙ ap Ok m.0 ∙ sym g.1.0, m.1, m.2)
+        let m : (f.0 ≡ g.0) × (k ≡ n) = one-index (fresh (keep_of u) u.instances) f.0 g.0 k n (rw f.1.0 at x) (rw g.1.0 at y) f.1.1 g.1.1 in
+        (f.1.0 ∙ ap Ok m.0 ∙ sym g.1.0, m.1)
     whole l false e = left refusal.OutOfBounds (a.out-of-bounds l e) (b.out-of-bounds l e)
 
-    go : Dec (length t ≡ 256) → (r ≡ q) × (v ≡ w) × (k ≡ n)
+    go : Dec (length t ≡ 256) → (r ≡ q) × (k ≡ n)
     go (yes l) = whole l (within u) refl
     go (no l) = left refusal.Malformed (a.no_table l) (b.no_table l)
 
@@ -101,6 +101,6 @@ pub one_choice : (a : Answer) (r q : Result ℕ Refusal) (was out end : List ℕ
 one_choice = select.one-outcome
 
 -- a read or a take
-pub one_list : (st : Step) (h j : Cache) (r q : Result Listed Refusal) (v w : List ℕ) (t u : List Sample) (was out end : List ℕ) → Whole (list.head_after h r).free → Whole (list.head_after j q).free
-    → list.Came st h r v t was out → list.Came st j q w u was end → (r ≡ q) × (list.head_after h r ≡ list.head_after j q) × (v ≡ w) × (t ≡ u) × (out ≡ end)
+pub one_list : (st : Step) (r q : Result ℕ Refusal) (h j : Cache) (v w : List ℕ) (t u : List Sample) (was out end : List ℕ) → Whole h.free → Whole j.free
+    → list.Came st r h v t was out → list.Came st q j w u was end → (r ≡ q) × (h ≡ j) × (v ≡ w) × (t ≡ u) × (out ≡ end)
 one_list = access.one-outcome

@@ -11,7 +11,7 @@ use Rattle.model.specs.Demand3.{Demand3}
 use Rattle.rust_model.specs.Maps.{gives}
 use Rattle.rust_model.specs.DataSampleCache.{DataSampleCache, new}
 use Rattle.rust_model.specs.Equal as rust
-use Rattle.index.specs.declared.Cache.{Cache}
+use Rattle.index.specs.declared.Index.{Index}
 use Rattle.std.specs.declared.result.Result.{Result}
 use Rattle.refusals.specs.declared.Refusal.{Refusal}
 use Rattle.demands.specs.Meets.{Memory, Holds, Seen, Means}
@@ -26,15 +26,13 @@ pub data Calls : Memory → List Call → List Seen → Memory → Type 0 where
 -- from a set-up within document 01's bounds, with keep count d, on any memory with a table of 256 records
 pub record Runs (u : SetUp) (d : Option ℕ) (cs : List Call) (ss : List Seen) (z : Memory) : Type 0 where
   pub bounds : Bounds u d
-  pub head : Cache
-  pub words : MutBor (List ℕ)
+  pub index : Index
   pub table : MutBor (List Sample)
   pub long : length table.now ≡ 256
-  pub words' : MutBor (List ℕ)
   pub table' : MutBor (List Sample)
-  pub outcome : Result Cache Refusal
-  pub set-up : SetUpCall words table u outcome words' table'
-  pub calls : Calls (holding (begun head outcome) words'.now table'.now) cs ss z
+  pub outcome : Result Index Refusal
+  pub set-up : SetUpCall table u outcome table'
+  pub calls : Calls (holding (begun index outcome) table'.now) cs ss z
 
 -- each is what was seen of the answer beside it
 abbrev pub Agree : List Seen → List Answer → Type 0

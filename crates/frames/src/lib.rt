@@ -25,6 +25,7 @@ fn fill<R: Read>(input: &mut R, buf: &mut [u8]) -> io::Result<usize>
     ensures { IfOk result (λ n. n ≤ length buf.new) }
 {
     let mut n = 0;
+    // A while: n grows by what came.
     while n < buf.len() {
         match input.read(&mut buf[n..])? {
             0 => break,

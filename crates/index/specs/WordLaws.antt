@@ -1,7 +1,7 @@
 -- Loads and stores as the code meets them, and what they make of words that are five regions.
-use Rattle.std.specs.Prelude.{◌≡◌, List, [], ◌∷◌, ◌++◌, ℕ, suc, ◌+◌, ◌-◌, ◌*◌, ◌%◌, ◌≤◌, ◌<◌, get_or, take, drop, ltb}
+use Rattle.std.specs.Prelude.{◌≡◌, List, [], ◌∷◌, ◌++◌, ℕ, zero, suc, ◌+◌, ◌-◌, ◌*◌, ◌%◌, ◌≤◌, ◌<◌, get_or, take, drop, ltb}
 use Rattle.std.proofs.Math.Path.{refl, sym}
-use Rattle.std.proofs.Common.{ap, ◌∙◌, append_assoc, mul-suc, eq-or-lt_of_le, add-zero, zero-mul, add-one, arith, length-set, length-append, length-drop, get_or-take, take_all}
+use Rattle.std.proofs.Common.{ap, ◌∙◌, append_assoc, mul-suc, eq-or-lt_of_le, add-zero, not-suc-le-zero, le_of_suc-le-suc, lit<, zero-mul, add-one, arith, length-set, length-append, length-drop, get_or-take, take_all}
 use Rattle.std.proofs.Math.Bool.{cond}
 use Rattle.std.proofs.Math.Logic.{⊎_elim}
 use Rattle.std.proofs.Math.Nat.{zero-add, sub-zero}
@@ -11,6 +11,7 @@ use Rattle.std.proofs.Math.ListN.{length, set, replicate, length-take, get_or-eq
 use Rattle.std.proofs.lemmas.List.{length-replicate}
 use Rattle.std.proofs.Math.Seq.{take_at, drop_at, get_or-drop, set_out, drop-append-add, set-append_left, set-append_seam}
 use Rattle.lists.specs.Blocks.{flat, length-flat, filled, Even, put_at, filled_put, filled-get-or, length-filled, even-put, even-at, get-put, put-put, put-set, put-end, put_same, filled_more, length-put-in, length-put-end, set-append-add}
+use Rattle.std.specs.Simd.{first_chunks}
 use Rattle.lists.specs.Regions.{join, set_a, set_b, set-c, set-d}
 use Rattle.sampleinfo.specs.States.{instance_bit, instance_of_bit}
 use Rattle.sampleinfo.specs.StateLaws.{of-bit-bit}
@@ -162,15 +163,28 @@ put-meta-past ws i x h =
 pub accessed-past : (ws : List ℕ) (i v : ℕ) → 32 ≤ i → ws ≡ store 32 128 ws (4 * i + 3) v
 accessed-past ws i v h = store-past 32 128 ws (4 * i + 3) v (omega arith)
 
-pub put-meta-done : (ws w0 w1 w2 w3 : List ℕ) (i b : ℕ) (x : InstanceMetaData) → w3 ≡ put_meta_word w2 (4 * i + 3) (accessed_of x) → w2 ≡ put_meta_word w1 (4 * i + 2) (no_writers_count (counts_of x))
-    → w1 ≡ put_meta_word w0 (4 * i + 1) (disposed_count (counts_of x)) → w0 ≡ put_meta_word ws (4 * i) b → b ≡ instance_bit (state_of x) → w3 ≡ put_meta ws i x
+pub put-meta-done : (ws w0 w1 w2 w3 : List ℕ) (i b d n : ℕ) (x : InstanceMetaData) → w3 ≡ put_meta_word w2 (4 * i + 3) (accessed_of x) → w2 ≡ put_meta_word w1 (4 * i + 2) n
+    → w1 ≡ put_meta_word w0 (4 * i + 1) d → w0 ≡ put_meta_word ws (4 * i) b → b ≡ instance_bit (state_of x) → d ≡ disposed_count (counts_of x) → n ≡ no_writers_count (counts_of x)
+    → w3 ≡ put_meta ws i x
 unfolding put_meta
-put-meta-done ws w0 w1 w2 w3 i b x p q r s e = rw (p, q, r, s, e)
+put-meta-done ws w0 w1 w2 w3 i b d n x p q r s t u v = rw (p, q, r, s, t, u, v)
 
-pub meta-made : (ms : List ℕ) (i b d n a d0 n0 : ℕ) (st : InstanceState) → st ≡ instance_of_bit b → b ≡ get_or ms (4 * i) 0 → d ≡ d0 % 4294967296 → d0 ≡ get_or ms (4 * i + 1) 0
-    → n ≡ n0 % 4294967296 → n0 ≡ get_or ms (4 * i + 2) 0 → a ≡ get_or ms (4 * i + 3) 0 → meta st (counts d n) a ≡ meta_at ms i
-unfolding meta_at
-meta-made ms i b d n a d0 n0 st p q r s t u v = rw (p, q, r, s, t, u, v)
+-- the word j of chunk i is the word 4 * i + j
+word-in-chunk : (ms : List ℕ) (n i j : ℕ) (d : List ℕ) → i < n → j < 4 → get_or (get_or (first_chunks 4 n ms) i d) j 0 ≡ get_or ms (4 * i + j) 0
+word-in-chunk ms zero i j d h l = absurd (not-suc-le-zero h)
+word-in-chunk ms (suc n) zero j d h l = get_or-take 4 ms j 0 l ∙ ap (λ (k : ℕ). get_or ms k 0) (sym (zero-add j))
+word-in-chunk ms (suc n) (suc i) j d h l =
+    let e : 4 + (4 * i + j) ≡ 4 * suc i + j = omega arith in
+    word-in-chunk (drop 4 ms) n i j d (le_of_suc-le-suc h) l ∙ get_or-drop 4 ms (4 * i + j) 0 ∙ ap (λ (k : ℕ). get_or ms k 0) e
+
+pub meta_taken : (ws line : List ℕ) (ls : List (List ℕ)) (i n d e a : ℕ) (st : InstanceState) → ls ≡ first_chunks 4 n (take 128 (drop 32 ws)) → i < n → line ≡ get_or ls i line
+    → st ≡ instance_of_bit (get_or line 0 0) → d ≡ get_or line 1 0 % 4294967296 → e ≡ get_or line 2 0 % 4294967296 → a ≡ get_or line 3 0 → meta st (counts d e) a ≡ meta_at (region 32 128 ws) i
+unfolding meta_at region
+meta_taken ws line ls i n d e a st c h q s t u v =
+    let ms : List ℕ = take 128 (drop 32 ws) in
+    let w : (j : ℕ) → j < 4 → get_or line j 0 ≡ get_or ms (4 * i + j) 0 = λ j l. ap (λ (x : List ℕ). get_or x j 0) (q ∙ ap (λ (x : List (List ℕ)). get_or x i line) c) ∙ word-in-chunk ms n i j line h l in
+    let first : get_or line 0 0 ≡ get_or ms (4 * i) 0 = w 0 (lit< tt) ∙ ap (λ (k : ℕ). get_or ms k 0) (add-zero (4 * i)) in
+    rw (s, t, u, v, first, w 1 (lit< tt), w 2 (lit< tt), w 3 (lit< tt))
 
 low : (n : ℕ) → n < 4294967296 → n % 4294967296 ≡ n
 low n h = omega arith

@@ -55,7 +55,15 @@ impl Cache {
     pub const SLOTS: usize = 256;
 
     // How many words the instance records have.
-    const LINES: usize = 128;
+    const METAS_SIZE: usize = 128;
+}
+
+// A cache beside its sample table: the header, and the words with a region for each thing that a search asks for. The host
+// owns it and lends it.
+#[derive(Drop)]
+pub struct Index {
+    pub head: Cache,
+    pub words: [u64; Cache::WORDS],
 }
 
 // The cells of a row: as many as the keep count, oldest first.
@@ -130,16 +138,10 @@ pub fn put_name(ws: &mut [u64; Cache::WORDS], row: usize, name: u64)
     put_word::<{ Cache::NAMES }, { Cache::ROWS }>(ws, row, name);
 }
 
-fn meta_word(ws: &[u64; Cache::WORDS], i: usize) -> u64
-    ensures { result ≡ get_or (metas_in ws.now) i 0 }
-{
-    word_at::<{ Cache::METAS }, { Cache::LINES }>(ws, i)
-}
-
 fn put_meta_word(ws: &mut [u64; Cache::WORDS], i: usize, word: u64)
     ensures { ws.new ≡ put_meta_word ws.old i word }
 {
-    put_word::<{ Cache::METAS }, { Cache::LINES }>(ws, i, word);
+    put_word::<{ Cache::METAS }, { Cache::METAS_SIZE }>(ws, i, word);
 }
 
 pub fn cell_at(ws: &[u64; Cache::WORDS], i: usize) -> u64
@@ -184,33 +186,36 @@ fn count_of(word: u64) -> u32
 }
 
 // Past the last row a new instance's record.
-// Kept: four words by their places; a slice pattern would want an arm for slices of other lengths.
 pub fn meta_at(ws: &[u64; Cache::WORDS], row: usize) -> InstanceMetaData
     ensures { result ≡ meta_at (metas_in ws.now) row }
 {
-    if Cache::ROWS <= row {
-        return InstanceMetaData::new(InstanceState::Alive);
-    }
-    let i = 4 * row;
-    InstanceMetaData {
-        instance_state: InstanceState::from(meta_word(ws, i)),
-        latest_generation_available: NotAliveGenerationCounts {
-            disposed_generation_count: count_of(meta_word(ws, i + 1)),
-            no_writers_generation_count: count_of(meta_word(ws, i + 2)),
-        },
-        last_generation_accessed: meta_word(ws, i + 3),
+    let (records, _) = ws[Cache::METAS..Cache::CELLS].as_chunks::<4>();
+    match records.get(row) {
+        Some(record) => {
+            let [state, disposed, no_writers, last_generation_accessed] = *record;
+            InstanceMetaData {
+                instance_state: InstanceState::from(state),
+                latest_generation_available: NotAliveGenerationCounts {
+                    disposed_generation_count: count_of(disposed),
+                    no_writers_generation_count: count_of(no_writers),
+                },
+                last_generation_accessed,
+            }
+        }
+        None => InstanceMetaData::new(InstanceState::Alive),
     }
 }
 
+// Kept: store by store, since of words lent in chunks no clause says what all of them end as.
 pub fn put_meta(ws: &mut [u64; Cache::WORDS], row: usize, x: InstanceMetaData)
     ensures { ws.new ≡ put_meta ws.old row x }
 {
     if row < Cache::ROWS {
         let i = 4 * row;
         let counts = x.latest_generation_available;
-        put_meta_word(ws, i, x.instance_state.bit() as u64);
-        put_meta_word(ws, i + 1, counts.disposed_generation_count as u64);
-        put_meta_word(ws, i + 2, counts.no_writers_generation_count as u64);
+        put_meta_word(ws, i, u64::from(x.instance_state.bit()));
+        put_meta_word(ws, i + 1, u64::from(counts.disposed_generation_count));
+        put_meta_word(ws, i + 2, u64::from(counts.no_writers_generation_count));
         put_meta_word(ws, i + 3, x.last_generation_accessed);
     }
 }
@@ -247,6 +252,7 @@ fn place_in(names: &[u64], name: u64) -> Option<usize>
 }
 
 // The row of the name, or the number of rows held.
+// Kept a number: `place_of` gives one, and a new instance takes the row behind the last.
 pub fn find(ws: &[u64; Cache::WORDS], held: usize, name: u64) -> usize
     ensures { (s : Store) → Held s held ws.now → result ≡ place_of name s.insts }
 {

@@ -1,79 +1,68 @@
 -- An info got back from words, as the code meets it.
-use Rattle.std.specs.Prelude.{◌≡◌, List, ℕ, ◌+◌, ◌*◌, ◌%◌, ◌≤◌, ◌<◌, length, get_or, take, drop, set, replicate, ℤ}
-use Rattle.std.proofs.Common.{◌∙◌, append-nil, arith, length-drop, get_or-take, get_or-drop, length-take-le, SFits, to_z, of_z}
-use Rattle.std.proofs.Math.Nat.{zero-add}
+use Rattle.std.specs.Prelude.{◌≡◌, List, ℕ, zero, suc, ◌+◌, ◌*◌, ◌/◌, ◌%◌, ◌≤◌, ◌<◌, length, get_or, take, drop, set}
+use Rattle.std.proofs.Common.{◌∙◌, arith, length-drop, get_or-take, get_or-drop, length-take-le}
 use borrow.Author.Tests.{lt-ltb, le-ltb}
 use Rattle.std.proofs.lemmas.List.{length-map}
 use Rattle.std.proofs.Math.ListN.{get_or-map}
-use Rattle.std.specs.Int.{w64}
-use Rattle.std.proofs.Math.Facts.{to_z-of_z}
-use Rattle.sampleinfo.specs.States.{sample_of_bit, view_of_bit, instance_of_bit}
-use Rattle.sampleinfo.specs.declared.NotAliveGenerationCounts.{NotAliveGenerationCounts}
-use Rattle.sampleinfo.specs.declared.SampleState.{SampleState}
-use Rattle.sampleinfo.specs.declared.ViewState.{ViewState}
-use Rattle.sampleinfo.specs.declared.InstanceState.{InstanceState}
-use Rattle.sampleinfo.specs.declared.Body.{Body}
 use Rattle.sampleinfo.specs.declared.Info.{Info}
-use Rattle.infos.specs.Words.{rank_of_word, body_of_words, bytes_of, counts_in, places_in, laid, info_in, no_info, get_info}
-use Rattle.infos.specs.PutLaws.{copied, copied-start, copied-turn, copied-end}
+use Rattle.infos.specs.Words.{bytes_of, info_in, no_info, get_info}
+use Rattle.std.specs.Simd.{first_chunks}
+use Rattle.std.proofs.Math.Path.{refl, ap}
+use Rattle.std.proofs.Math.Seq.{drop-drop, take_all}
+use Rattle.std.proofs.lemmas.List.{drop-take, take-take}
+use Rattle.std.proofs.Common.{sym, add-one, take-suc, take-suc-set, lit<, not-suc-le-zero, le_of_suc-le-suc}
 
 -- ---- the writer's bytes, one by one
 
-module _ (l : List ℕ) (at : ℕ) where
-  -- 16 bytes of which the first j are read
-  unfoldable pub bytes_read : ℕ → List ℕ
-  unfolding copied
-  bytes_read j = copied (replicate 16 0) 0 (bytes_of (take 16 (drop at l))) j
+-- l: the words of an info
+module _ (l : List ℕ) (long : length l ≡ 27) where
+  bytes : List ℕ
+  bytes = bytes_of (take 16 (drop 11 l))
 
-  pub bytes-start : replicate 16 0 ≡ bytes_read 0
-  unfolding bytes_read
-  bytes-start = copied-start (replicate 16 0) 0 (bytes_of (take 16 (drop at l)))
+  sixteen : length bytes ≡ 16
+  unfolding bytes
+  sixteen = length-map (take 16 (drop 11 l)) (λ w. w % 256) ∙ length-take-le 16 (drop 11 l) (omega (arith, length-drop 11 l))
 
-  module _ (fits : at + 16 ≤ length l) where
-    sixteen : length (bytes_of (take 16 (drop at l))) ≡ 16
-    sixteen = length-map (take 16 (drop at l)) (λ w. w % 256) ∙ length-take-le 16 (drop at l) (omega (arith, length-drop at l))
+  byte : (j : ℕ) → j < 16 → get_or bytes j 0 ≡ get_or l (11 + j) 0 % 256
+  unfolding bytes
+  byte j h = get_or-map (λ w. w % 256) (take 16 (drop 11 l)) j 0 ∙ rw (get_or-take 16 (drop 11 l) j 0 h, get_or-drop 11 l j 0)
 
-    byte : (j : ℕ) → j < 16 → get_or (bytes_of (take 16 (drop at l))) j 0 ≡ get_or l (at + j) 0 % 256
-    byte j h = get_or-map (λ w. w % 256) (take 16 (drop at l)) j 0 ∙ rw (get_or-take 16 (drop at l) j 0 h, get_or-drop at l j 0)
+  pub bytes-start : (b : List ℕ) → take 0 b ≡ take 0 (bytes_of (take 16 (drop 11 l)))
+  bytes-start b = refl
 
-    -- n: where the loop stops
-    pub bytes-turn : (now : List ℕ) (j n : ℕ) → now ≡ bytes_read j → j < n → n ≤ 16 → set now j (get_or l (at + j) 0 % 256) ≡ bytes_read (j + 1)
-    unfolding bytes_read
-    bytes-turn now j n e h b =
-        rw (← byte j (omega arith)) (rw zero-add at (copied-turn (replicate 16 0) 0 (bytes_of (take 16 (drop at l))) now j n e h b sixteen (omega arith)))
+  pub bytes-turn : (b : List ℕ) (j x : ℕ) → take j b ≡ take j (bytes_of (take 16 (drop 11 l))) → length b ≡ 16 → j < length b → x ≡ get_or l (11 + j) 0 % 256
+      → take (j + 1) (set b j x) ≡ take (j + 1) (bytes_of (take 16 (drop 11 l)))
+  unfolding bytes
+  bytes-turn b j x e k h f = rw (add-one j, take-suc-set b j x h, e, f, ← byte j (omega arith), take-suc bytes j 0 (omega (arith, sixteen)))
 
-    pub bytes-end : (now : List ℕ) (j : ℕ) → now ≡ bytes_read j → 16 ≤ j → j ≤ 16 → now ≡ bytes_of (take 16 (drop at l))
-    unfolding bytes_read laid
-    bytes-end now j e h k =
-        copied-end (replicate 16 0) 0 (bytes_of (take 16 (drop at l))) now j e h k sixteen ∙ rw (sixteen, append-nil)
+  pub bytes-end : (b : List ℕ) (j : ℕ) → take j b ≡ take j (bytes_of (take 16 (drop 11 l))) → length b ≡ 16 → 16 ≤ j → b ≡ bytes_of (take 16 (drop 11 l))
+  unfolding bytes
+  bytes-end b j e k h = sym (take_all j b (omega arith)) ∙ e ∙ take_all j bytes (omega (arith, sixteen))
 
--- ---- the whole info
+-- ---- the info at a place of the buffer
 
-module _ (l : List ℕ) (at : ℕ) (b : Body) (s : SampleState) (v : ViewState) (i : InstanceState) (c : NotAliveGenerationCounts) (g a : ℤ) (w : List ℕ) where
-  pub got : w ≡ bytes_of (take 16 (drop (at + 11) l)) → b ≡ body_of_words (get_or l (at + 1) 0) (get_or l (at + 0) 0 % 4294967296)
-      → s ≡ sample_of_bit (get_or l (at + 2) 0) → v ≡ view_of_bit (get_or l (at + 3) 0) → i ≡ instance_of_bit (get_or l (at + 4) 0)
-      → c ≡ counts_in l at → g ≡ rank_of_word (get_or l (at + 8) 0) → SFits w64 g → a ≡ rank_of_word (get_or l (at + 9) 0) → SFits w64 a
-      → ◌≡◌ {A = Info} (record {
-        body = b;
-        sample_state = s;
-        view_state = v;
-        instance_state = i;
-        generation_counts = c;
-        sample_rank = get_or l (at + 7) 0;
-        generation_rank = to_z w64 (of_z w64 g);
-        absolute_generation_rank = to_z w64 (of_z w64 a);
-        publication_handle = w;
-        sequence_number = get_or l (at + 10) 0;
-      }) (info_in l at)
-  unfolding info_in
-  got p q r t u y m f n k = rw (p, q, r, t, u, y, to_z-of_z f, to_z-of_z k, m, n)
+chunk-at : (out : List ℕ) (n i : ℕ) (d : List ℕ) → i < n → get_or (first_chunks 27 n out) i d ≡ take 27 (drop (27 * i) out)
+chunk-at out zero i d h = absurd (not-suc-le-zero h)
+chunk-at out (suc n) zero d h = refl
+chunk-at out (suc n) (suc i) d h =
+    let e : 27 + 27 * i ≡ 27 * suc i = omega arith in
+    chunk-at (drop 27 out) n i d (le_of_suc-le-suc h) ∙ rw (drop-drop, e)
 
-module _ (l : List ℕ) (p : ℕ) (x : Info) where
-  -- room: how many the code finds place for
-  pub get_here : (room : ℕ) → x ≡ info_in l (27 * p) → room ≡ places_in l → p < room → x ≡ get_info l p
-  unfolding get_info
-  get_here room e r h = rw (e, ← r, lt-ltb p room h)
+info-taken : (out : List ℕ) (a : ℕ) → info_in (take 27 (drop a out)) 0 ≡ info_in out a
+unfolding info_in
+info-taken out a =
+    rw (word 0 (lit< tt), word 1 (lit< tt), word 2 (lit< tt), word 3 (lit< tt), word 4 (lit< tt), word 5 (lit< tt), word 6 (lit< tt), word 7 (lit< tt), word 8 (lit< tt), word 9 (lit< tt), word 10 (lit< tt), drop-take 11 16 (drop a out), drop-drop 11 a out, take-take 16 16 (drop (a + 11) out) (omega arith))
+  where
+    word : (j : ℕ) → j < 27 → get_or (take 27 (drop a out)) j 0 ≡ get_or out (a + j) 0
+    word j h = get_or-take 27 (drop a out) j 0 h ∙ get_or-drop a out j 0
 
-  pub get_past : (room : ℕ) → x ≡ no_info → room ≡ places_in l → room ≤ p → x ≡ get_info l p
-  unfolding get_info
-  get_past room e r h = rw (e, ← r, le-ltb p room h)
+pub get_here : (out row : List ℕ) (cs : List (List ℕ)) (p : ℕ) (x : Info) → cs ≡ first_chunks 27 (length out / 27) out → p < length out / 27 → row ≡ get_or cs p row
+    → x ≡ info_in row 0 → x ≡ get_info out p
+unfolding get_info
+get_here out row cs p x c h e q =
+    let taken : row ≡ take 27 (drop (27 * p) out) = e ∙ ap (λ (l : List (List ℕ)). get_or l p row) c ∙ chunk-at out (length out / 27) p row h in
+    q ∙ ap (λ (l : List ℕ). info_in l 0) taken ∙ info-taken out (27 * p) ∙ rw (lt-ltb p (length out / 27) h)
+
+pub get_past : (out : List ℕ) (p : ℕ) (x : Info) → x ≡ no_info → length out / 27 ≤ p → x ≡ get_info out p
+unfolding get_info
+get_past out p x e h = rw (e, le-ltb p (length out / 27) h)

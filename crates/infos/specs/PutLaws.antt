@@ -1,44 +1,15 @@
 -- An info put into a buffer, word by word.
-use Rattle.std.specs.Prelude.{◌≡◌, refl, ℕ, suc, ◌+◌, ◌*◌, ◌≤◌, ◌<◌, get_or, take, drop, set, replicate}
+use Rattle.std.specs.Prelude.{◌≡◌, ℕ, ◌+◌, ◌*◌, ◌≤◌, ◌<◌, get_or, take, drop, set, replicate}
 use Rattle.std.proofs.Math.Path.{sym, ap}
-use Rattle.std.proofs.Common.{◌∙◌, add-zero, add-suc, lt-ltb, le-ltb, drop_at, drop-drop, length-take-le, SFits, to_z, of_z, to_z-of_z}
-use mathlib.Core.List.{List, [], ◌∷◌, ◌++◌, append_assoc}
+use borrow.Rule.Slice.PartMut.{put_mid}
+use Rattle.std.proofs.Common.{append-nil, drop_of_length-le, ◌∙◌, lt-ltb, le-ltb, drop_at, drop-drop, length-take-le}
+use mathlib.Core.List.{List, [], ◌++◌, append_assoc}
 use Rattle.std.proofs.Math.Numerals.{add-one}
 use native.Mathlib.Omega.{arith}
 use Rattle.std.proofs.Math.ListN.{length, length-append}
 use Rattle.std.proofs.Math.Seq.{paste, paste-zero, paste-suc, take_all, take_at}
-use Rattle.std.proofs.lemmas.List.Edits.{sets, sets-eq}
-use Rattle.std.specs.Int.{w64}
-use Rattle.sampleinfo.specs.States.{sample_bit, view_bit, instance_bit, kind_of, handle_of}
-use Rattle.sampleinfo.specs.Counts.{disposed_count, no_writers_count}
 use Rattle.sampleinfo.specs.declared.Info.{Info}
-use Rattle.infos.specs.Words.{word_of_rank, state_words, rank_words, head_words, writer_words, info_words, places_in, laid, put_info}
-
--- ---- a run of stores at at + k, at + k + 1 and so on
-
-abbrev pub stores : List ℕ → ℕ → ℕ → List ℕ → List ℕ
-stores l at k [] = l
-stores l at k (v ∷ vs) = stores (set l (at + k) v) at (suc k) vs
-
-stores-sets : (l : List ℕ) (at k : ℕ) (vs : List ℕ) → stores l at k vs ≡ sets l (at + k) vs
-stores-sets l at k [] = refl
-stores-sets l at k (v ∷ vs) = stores-sets (set l (at + k) v) at (suc k) vs ∙ rw add-suc
-
-stores-laid : (l : List ℕ) (at k : ℕ) (vs : List ℕ) → at + k + length vs ≤ length l → stores l at k vs ≡ laid l (at + k) vs
-unfolding laid
-stores-laid l at k vs h = stores-sets l at k vs ∙ sets-eq vs l (at + k) h
-
--- what the code stores of an info but for the writer
-module _ (l : List ℕ) (at : ℕ) (x : Info) where
-  pub states-put : (a b s v i : ℕ) → a ≡ handle_of x.body → b ≡ kind_of x.body → s ≡ sample_bit x.sample_state → v ≡ view_bit x.view_state → i ≡ instance_bit x.instance_state
-      → at + 27 ≤ length l → stores l at 0 (a ∷ b ∷ s ∷ v ∷ i ∷ []) ≡ laid l at (state_words x)
-  states-put a b s v i p q r t u h = rw (← p, ← q, ← r, ← t, ← u) (stores-laid l at 0 (a ∷ b ∷ s ∷ v ∷ i ∷ []) (omega arith) ∙ rw add-zero)
-
-  pub ranks-put : (g a : ℕ) → g ≡ word_of_rank (to_z w64 (of_z w64 x.generation_rank)) → SFits w64 x.generation_rank
-      → a ≡ word_of_rank (to_z w64 (of_z w64 x.absolute_generation_rank)) → SFits w64 x.absolute_generation_rank
-      → at + 27 ≤ length l
-      → stores l at 5 (disposed_count x.generation_counts ∷ no_writers_count x.generation_counts ∷ x.sample_rank ∷ g ∷ a ∷ x.sequence_number ∷ []) ≡ laid l (at + 5) (rank_words x)
-  ranks-put g a p f q k h = rw (p, q, to_z-of_z f, to_z-of_z k) (stores-laid l at 5 _ (omega arith))
+use Rattle.infos.specs.Words.{state_words, rank_words, head_words, writer_words, info_words, places_in, laid, put_info}
 
 -- ---- a copy: the first j of s
 
@@ -77,24 +48,35 @@ module _ (l : List ℕ) (at : ℕ) (a b : List ℕ) (fits : at + length a ≤ le
       let e : at + length (a ++ b) ≡ at + length a + length b = omega (arith, length-append a b) in
       rw (behind, take_at (take at l ++ a) (drop (at + length a) l) (at + length a) front, e, append_assoc (take at l) a b)
 
-pub head-put : (l m n : List ℕ) (at : ℕ) (x : Info) → n ≡ laid m (at + 5) (rank_words x) → m ≡ laid l at (state_words x) → at + 27 ≤ length l → n ≡ laid l at (head_words x)
-head-put l m n at x e q h =
-    e ∙ ap (λ (k : List ℕ). laid k (at + 5) (rank_words x)) q ∙ laid-laid l at (state_words x) (rank_words x) (omega arith)
-
 pub writer-is : (w : List ℕ) → length w ≡ 16 → writer_words w ≡ w
 writer-is w e = take_at w (replicate 16 0) 16 e
 
 -- ---- the whole info
 
+mid-laid : (l : List ℕ) (at k : ℕ) (ys : List ℕ) → k ≡ length ys → put_mid at k l ys ≡ laid l at ys
+unfolding laid
+mid-laid l at k ys q = rw (q, drop-drop) (sym (append_assoc (take at l) ys (drop (at + length ys) l)))
+
+all-laid : (l s : List ℕ) → length l ≡ length s → laid l 0 s ≡ s
+unfolding laid
+all-laid l s e =
+    let z : drop (0 + length s) l ≡ [] = drop_of_length-le l (omega (arith, e)) in
+    rw (z, append-nil)
+
+-- states, ranks and writer, one behind the other
+pub words_put : (l a b c : List ℕ) (x : Info) → a ≡ laid l 0 (state_words x) → b ≡ laid a 5 (rank_words x) → c ≡ laid b 11 x.publication_handle
+    → length l ≡ 27 → length x.publication_handle ≡ 16 → c ≡ info_words x
+unfolding info_words
+words_put l a b c x p q r k w =
+    let all : laid l 0 (head_words x ++ x.publication_handle) ≡ head_words x ++ x.publication_handle = all-laid l (head_words x ++ x.publication_handle) (omega (arith, k, w, length-append (head_words x) x.publication_handle)) in
+    r ∙ ap (λ (m : List ℕ). laid m 11 x.publication_handle) (q ∙ ap (λ (m : List ℕ). laid m 5 (rank_words x)) p ∙ laid-laid l 0 (state_words x) (rank_words x) (omega arith))
+    ∙ laid-laid l 0 (head_words x) x.publication_handle (omega arith) ∙ rw (all, writer-is x.publication_handle w)
+
 module _ (l : List ℕ) (p : ℕ) (x : Info) where
   -- room: how many the code finds place for
-  pub put_done : (m n : List ℕ) (room : ℕ) → n ≡ laid m (27 * p + 11) x.publication_handle → m ≡ laid l (27 * p) (head_words x)
-      → length x.publication_handle ≡ 16 → room ≡ places_in l → p < room → n ≡ put_info l p x
-  unfolding put_info info_words
-  put_done m n room e q w r h =
-      e ∙ ap (λ (k : List ℕ). laid k (27 * p + 11) x.publication_handle) q
-      ∙ laid-laid l (27 * p) (head_words x) x.publication_handle (omega arith)
-      ∙ rw (← r, lt-ltb p room h, writer-is x.publication_handle w)
+  pub put_done : (k : ℕ) (ys : List ℕ) (room : ℕ) → k ≡ length ys → ys ≡ info_words x → room ≡ places_in l → p < room → put_mid (27 * p) k l ys ≡ put_info l p x
+  unfolding put_info
+  put_done k ys room q e r h = mid-laid l (27 * p) k ys q ∙ rw (e, ← r, lt-ltb p room h)
 
   pub put_kept : (room : ℕ) → room ≡ places_in l → room ≤ p → l ≡ put_info l p x
   unfolding put_info

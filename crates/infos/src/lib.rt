@@ -1,11 +1,11 @@
 // datasample_cache.rs, make_sample_info: the info of a sample, with the ranks of its place; and infos as words of the lent result buffer.
 #![tactic(auto)]
 
-ghost use Rattle.std.specs.Prelude.{◌≡◌, ◌+◌, ◌≤◌, length, take, drop};
+ghost use Rattle.std.specs.Prelude.{◌≡◌, ◌%◌, take, drop};
 ghost use Rattle.sampleinfo.specs.Counts.{total};
 ghost use Rattle.model.specs.Views.{view_of, rank_from};
 ghost use Rattle.infos.specs.Infos.{ranks_from, info_from};
-ghost use Rattle.infos.specs.Words.{body_of_words, state_words, rank_words, head_words, bytes_of, counts_in, places_in, laid, put_info, info_in, no_info, get_info};
+ghost use Rattle.infos.specs.Words.{body_of_words, state_words, rank_words, info_words, bytes_of, counts_in, places_in, laid, put_info, info_in, no_info, get_info};
 
 use sampleinfo::{
     Body, Info, InstanceMetaData, InstanceState, NotAliveGenerationCounts, Ranks, Sample,
@@ -128,49 +128,48 @@ pub fn places(out: &[u64]) -> usize
 // ---- an info put
 
 // The handle, the kind and the three states.
-fn put_states(out: &mut [u64], at: usize, x: Info)
-    requires { at + 27 ≤ length out.old }
-    ensures { out.new ≡ laid out.old at (state_words x) }
+#[tactic(auto, unfolding(crate::specs::Words::laid))]
+fn put_states(words: &mut [u64; InfoWords::WORDS], x: Info)
+    ensures { words.new ≡ laid words.old 0 (state_words x) }
 {
-    out[at + InfoWords::HANDLE] = u64::from(x.body.handle());
-    out[at + InfoWords::KIND] = u64::from(x.body.kind());
-    out[at + InfoWords::SAMPLE_STATE] = u64::from(x.sample_state.bit());
-    out[at + InfoWords::VIEW_STATE] = u64::from(x.view_state.bit());
-    out[at + InfoWords::INSTANCE_STATE] = u64::from(x.instance_state.bit());
+    words[InfoWords::HANDLE] = u64::from(x.body.handle());
+    words[InfoWords::KIND] = u64::from(x.body.kind());
+    words[InfoWords::SAMPLE_STATE] = u64::from(x.sample_state.bit());
+    words[InfoWords::VIEW_STATE] = u64::from(x.view_state.bit());
+    words[InfoWords::INSTANCE_STATE] = u64::from(x.instance_state.bit());
 }
 
 // The counts, the ranks, in two's complement, and the sequence number.
-fn put_ranks(out: &mut [u64], at: usize, x: Info)
-    requires { at + 27 ≤ length out.old }
-    ensures { out.new ≡ laid out.old (at + 5) (rank_words x) }
+#[tactic(auto, unfolding(crate::specs::Words::laid))]
+fn put_ranks(words: &mut [u64; InfoWords::WORDS], x: Info)
+    ensures { words.new ≡ laid words.old 5 (rank_words x) }
 {
     let counts = x.generation_counts;
-    out[at + InfoWords::DISPOSED_GENERATION_COUNT] = u64::from(counts.disposed_generation_count);
-    out[at + InfoWords::NO_WRITERS_GENERATION_COUNT] = u64::from(
-        counts.no_writers_generation_count,
-    );
-    out[at + InfoWords::SAMPLE_RANK] = x.sample_rank;
-    out[at + InfoWords::GENERATION_RANK] = x.generation_rank.cast_unsigned();
-    out[at + InfoWords::ABSOLUTE_GENERATION_RANK] = x.absolute_generation_rank.cast_unsigned();
-    out[at + InfoWords::SEQUENCE_NUMBER] = x.sequence_number;
+    words[InfoWords::DISPOSED_GENERATION_COUNT] = u64::from(counts.disposed_generation_count);
+    words[InfoWords::NO_WRITERS_GENERATION_COUNT] = u64::from(counts.no_writers_generation_count);
+    words[InfoWords::SAMPLE_RANK] = x.sample_rank;
+    words[InfoWords::GENERATION_RANK] = x.generation_rank.cast_unsigned();
+    words[InfoWords::ABSOLUTE_GENERATION_RANK] = x.absolute_generation_rank.cast_unsigned();
+    words[InfoWords::SEQUENCE_NUMBER] = x.sequence_number;
 }
 
-// All but the writer.
-fn put_head(out: &mut [u64], at: usize, x: Info)
-    requires { at + 27 ≤ length out.old }
-    ensures { out.new ≡ laid out.old at (head_words x) }
+fn put_writer(words: &mut [u64; InfoWords::WORDS], writer: [u8; InfoWords::BYTES])
+    ensures { words.new ≡ laid words.old 11 writer }
 {
-    put_states(out, at, x);
-    put_ranks(out, at, x);
-}
-
-fn put_writer(out: &mut [u64], at: usize, writer: [u8; 16])
-    requires { at + 16 ≤ length out.old }
-    ensures { out.new ≡ laid out.old at writer }
-{
-    for j in 0..InfoWords::BYTES {
-        out[at + j] = u64::from(writer[j]);
+    for (j, byte) in writer.iter().enumerate() {
+        words[InfoWords::PUBLICATION_HANDLE + j] = u64::from(*byte);
     }
+}
+
+// The words that stand for an info.
+fn words_of(x: Info) -> [u64; InfoWords::WORDS]
+    ensures { result ≡ info_words x }
+{
+    let mut words = [0; InfoWords::WORDS];
+    put_states(&mut words, x);
+    put_ranks(&mut words, x);
+    put_writer(&mut words, x.publication_handle);
+    words
 }
 
 // The info goes in at place p, where the buffer has room for the whole of it; else nothing changes.
@@ -179,61 +178,58 @@ pub fn put_info(out: &mut [u64], p: usize, x: Info)
 {
     if p < places(out) {
         let at = InfoWords::WORDS * p;
-        put_head(out, at, x);
-        put_writer(
-            out,
-            at + InfoWords::PUBLICATION_HANDLE,
-            x.publication_handle,
-        );
+        out[at..at + InfoWords::WORDS].copy_from_slice(&words_of(x));
     }
 }
 
 // ---- an info got back
 
-fn writer_at(out: &[u64], at: usize) -> [u8; 16]
-    requires { at + 16 ≤ length out.now }
-    ensures { result ≡ bytes_of (take 16 (drop at out.now)) }
+fn low_half(word: u64) -> u32
+    ensures { result ≡ word % 4294967296 }
 {
-    let mut writer = [0u8; 16];
-    for j in 0..InfoWords::BYTES {
-        writer[j] = (out[at + j] % 256) as u8;
+    (word & 0xFFFF_FFFF) as u32
+}
+
+fn writer_of(words: &[u64; InfoWords::WORDS]) -> [u8; InfoWords::BYTES]
+    ensures { result ≡ bytes_of (take 16 (drop 11 words.now)) }
+{
+    let mut writer = [0; InfoWords::BYTES];
+    for (j, byte) in writer.iter_mut().enumerate() {
+        *byte = (words[InfoWords::PUBLICATION_HANDLE + j] % 256) as u8;
     }
     writer
 }
 
-fn counts_at(out: &[u64], at: usize) -> NotAliveGenerationCounts
-    requires { at + 27 ≤ length out.now }
-    ensures { result ≡ counts_in out.now at }
+fn counts_of(words: &[u64; InfoWords::WORDS]) -> NotAliveGenerationCounts
+    ensures { result ≡ counts_in words.now 0 }
 {
     NotAliveGenerationCounts {
-        disposed_generation_count: (out[at + InfoWords::DISPOSED_GENERATION_COUNT]
-            % 4294967296) as u32,
-        no_writers_generation_count: (out[at + InfoWords::NO_WRITERS_GENERATION_COUNT]
-            % 4294967296) as u32,
+        disposed_generation_count: low_half(words[InfoWords::DISPOSED_GENERATION_COUNT]),
+        no_writers_generation_count: low_half(words[InfoWords::NO_WRITERS_GENERATION_COUNT]),
     }
 }
 
 // The info that 27 words stand for, whatever they hold.
-fn info_at(out: &[u64], at: usize) -> Info
-    requires { at + 27 ≤ length out.now }
-    ensures { result ≡ info_in out.now at }
+#[tactic(auto, unfolding(crate::specs::Words::info_in))]
+fn info_of(words: &[u64; InfoWords::WORDS]) -> Info
+    ensures { result ≡ info_in words.now 0 }
 {
-    let handle = (out[at + InfoWords::HANDLE] % 4294967296) as u32;
+    let handle = low_half(words[InfoWords::HANDLE]);
     Info {
-        body: body_of(out[at + InfoWords::KIND], handle),
-        sample_state: SampleState::from(out[at + InfoWords::SAMPLE_STATE]),
-        view_state: ViewState::from(out[at + InfoWords::VIEW_STATE]),
-        instance_state: InstanceState::from(out[at + InfoWords::INSTANCE_STATE]),
-        generation_counts: counts_at(out, at),
-        sample_rank: out[at + InfoWords::SAMPLE_RANK],
-        generation_rank: out[at + InfoWords::GENERATION_RANK].cast_signed(),
-        absolute_generation_rank: out[at + InfoWords::ABSOLUTE_GENERATION_RANK].cast_signed(),
-        publication_handle: writer_at(out, at + InfoWords::PUBLICATION_HANDLE),
-        sequence_number: out[at + InfoWords::SEQUENCE_NUMBER],
+        body: body_of(words[InfoWords::KIND], handle),
+        sample_state: SampleState::from(words[InfoWords::SAMPLE_STATE]),
+        view_state: ViewState::from(words[InfoWords::VIEW_STATE]),
+        instance_state: InstanceState::from(words[InfoWords::INSTANCE_STATE]),
+        generation_counts: counts_of(words),
+        sample_rank: words[InfoWords::SAMPLE_RANK],
+        generation_rank: words[InfoWords::GENERATION_RANK].cast_signed(),
+        absolute_generation_rank: words[InfoWords::ABSOLUTE_GENERATION_RANK].cast_signed(),
+        publication_handle: writer_of(words),
+        sequence_number: words[InfoWords::SEQUENCE_NUMBER],
     }
 }
 
-// What is answered past the end: all numbers 0, a value's body. (Written out: no derived default says these states.)
+// What is answered past the end: all numbers 0, a value's body. No derived default: these states are not zeros.
 fn no_info() -> Info
     ensures { result ≡ no_info }
 {
@@ -252,13 +248,12 @@ fn no_info() -> Info
 }
 
 // The info at place p, by value.
-#[tactic(auto, using(crate::specs::GetLaws::get_here, crate::specs::GetLaws::get_past))]
 pub fn get_info(out: &[u64], p: usize) -> Info
     ensures { result ≡ get_info out.now p }
 {
-    if p < places(out) {
-        info_at(out, InfoWords::WORDS * p)
-    } else {
-        no_info()
+    let (infos, _) = out.as_chunks::<{ InfoWords::WORDS }>();
+    match infos.get(p) {
+        Some(words) => info_of(words),
+        None => no_info(),
     }
 }

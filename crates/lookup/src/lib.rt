@@ -8,8 +8,7 @@ ghost use Rattle.index.specs.Words.{keys_in, owners_in};
 ghost use Rattle.index.specs.Memory.{Tied, Held};
 ghost use Rattle.lookup.specs.Lookup.{next_of, least_of, nearer_of, pair_of, slot_in, Windowed, Slotted};
 
-use index::{Cache, Window};
-use slots::Free;
+use index::{Cache, Index, Window};
 
 // ---- the next instance key
 
@@ -25,12 +24,13 @@ fn nearer(best: Option<u64>, given: u64, name: u64) -> Option<u64>
 }
 
 // The smallest held instance key above the given one, held or not.
-pub fn next_key(ws: &[u64; Cache::WORDS], held: usize, name: u64) -> Option<u64>
-    ensures { (s : Store) → Held s held ws.now → result ≡ next_of (next_name name s.insts) }
+// Kept: from the last row down, as `next_name` is defined.
+pub fn next_key(x: &Index, name: u64) -> Option<u64>
+    ensures { (s : Store) → Held s x.now.head.held x.now.words → result ≡ next_of (next_name name s.insts) }
 {
     let mut best = None;
-    for row in (0..index::rows_held(held)).rev() {
-        best = nearer(best, name, index::name_at(ws, row));
+    for row in (0..index::rows_held(x.head.held)).rev() {
+        best = nearer(best, name, index::name_at(&x.words, row));
     }
     best
 }
@@ -45,6 +45,7 @@ fn holds(ws: &[u64; Cache::WORDS], cell: usize, key: u64) -> bool
 }
 
 // With a keep count: among the cells of the row.
+// Kept: cell by cell, as `Windowed` says of the words what each cell of a row is; a slice of them is spoken of nowhere.
 fn among_cells(ws: &[u64; Cache::WORDS], window: Window, key: u64) -> Option<usize>
     ensures { (s : Store) → Windowed s window.depth window.row ws.now → result ≡ slot_in (cell_keyed key s.keys (inst_at s window.row).cells) }
 {
@@ -59,34 +60,38 @@ fn among_cells(ws: &[u64; Cache::WORDS], window: Window, key: u64) -> Option<usi
 }
 
 // The slot is of the row, and its sample has that key.
-fn is_its(free: Free, ws: &[u64; Cache::WORDS], slot: usize, row: usize, key: u64) -> bool
-    ensures { result ≡ not (free_at (bits_of free.words) slot) && (eqb (get_or (keys_in ws.now) slot 0) key && eqb (get_or (owners_in ws.now) slot 0) row) }
+fn is_its(x: &Index, slot: usize, row: usize, key: u64) -> bool
+    ensures { result ≡ not (free_at (bits_of x.now.head.free.words) slot) && (eqb (get_or (keys_in x.now.words) slot 0) key && eqb (get_or (owners_in x.now.words) slot 0) row) }
 {
-    !free.is_free(slot) && index::key_at(ws, slot) == key && index::owner_at(ws, slot) == row as u64
+    let Index { head, words } = x;
+    !head.free.is_free(slot)
+        && index::key_at(words, slot) == key
+        && index::owner_at(words, slot) == row as u64
 }
 
 // With no keep count: among all slots.
-fn among_slots(free: Free, ws: &[u64; Cache::WORDS], row: usize, key: u64) -> Option<usize>
-    ensures { (s : Store) → Slotted s free.words ws.now → result ≡ slot_in (slot_keyed 256 0 key row s) }
+// Kept: of `(0..SLOTS).find(..)` the tie of its run to `slot_keyed` did not close.
+fn among_slots(x: &Index, row: usize, key: u64) -> Option<usize>
+    ensures { (s : Store) → Slotted s x.now.head.free.words x.now.words → result ≡ slot_in (slot_keyed 256 0 key row s) }
 {
     for slot in 0..Cache::SLOTS {
-        if is_its(free, ws, slot, row, key) {
+        if is_its(x, slot, row, key) {
             return Some(slot);
         }
     }
     None
 }
 
-pub fn locate(h: Cache, ws: &[u64; Cache::WORDS], key: u64, name: u64) -> Option<usize>
-    ensures { (s : Store) → Tied s h ws.now → result ≡ slot_in (slot_named s (pair_of key name)) }
+pub fn locate(x: &Index, key: u64, name: u64) -> Option<usize>
+    ensures { (s : Store) → Tied s x.now.head x.now.words → result ≡ slot_in (slot_named s (pair_of key name)) }
 {
-    let row = index::find(ws, h.held, name);
-    if h.held <= row {
+    let row = index::find(&x.words, x.head.held, name);
+    if x.head.held <= row {
         None
-    } else if h.depth == 0 {
-        among_slots(h.free, ws, row, key)
+    } else if x.head.depth == 0 {
+        among_slots(x, row, key)
     } else {
-        among_cells(ws, Window::of(h.depth, row)?, key)
+        among_cells(&x.words, Window::of(x.head.depth, row)?, key)
     }
 }
 
@@ -99,10 +104,10 @@ fn beats(ws: &[u64; Cache::WORDS], best: Option<usize>, slot: usize) -> bool
     best.is_some_and(|best| index::key_at(ws, slot) < index::key_at(ws, best))
 }
 
-fn later(free: Free, ws: &[u64; Cache::WORDS], slot: usize, best: Option<usize>) -> Option<usize>
-    ensures { (r : ℕ) → best ≡ slot_in r → slot < 256 → result ≡ slot_in (cond (free_at (bits_of free.words) slot) r (later_slot (keys_in ws.now) slot r)) }
+fn later(x: &Index, slot: usize, best: Option<usize>) -> Option<usize>
+    ensures { (r : ℕ) → best ≡ slot_in r → slot < 256 → result ≡ slot_in (cond (free_at (bits_of x.now.head.free.words) slot) r (later_slot (keys_in x.now.words) slot r)) }
 {
-    if free.is_free(slot) || beats(ws, best, slot) {
+    if x.head.free.is_free(slot) || beats(&x.words, best, slot) {
         best
     } else {
         Some(slot)
@@ -110,22 +115,23 @@ fn later(free: Free, ws: &[u64; Cache::WORDS], slot: usize, best: Option<usize>)
 }
 
 // The live slot with the greatest key.
-fn greatest(free: Free, ws: &[u64; Cache::WORDS]) -> Option<usize>
-    ensures { (s : Store) → Slotted s free.words ws.now → result ≡ slot_in (greatest_from 256 0 s) }
+// Kept: from the last slot down, as `greatest_from` is defined: of equal keys the lower slot wins.
+fn greatest(x: &Index) -> Option<usize>
+    ensures { (s : Store) → Slotted s x.now.head.free.words x.now.words → result ≡ slot_in (greatest_from 256 0 s) }
 {
     let mut best = None;
     for slot in (0..Cache::SLOTS).rev() {
-        best = later(free, ws, slot, best);
+        best = later(x, slot, best);
     }
     best
 }
 
 // That of the last accepted sample while it is live.
-pub fn latest_slot(h: Cache, ws: &[u64; Cache::WORDS]) -> Option<usize>
-    ensures { (s : Store) → Tied s h ws.now → result ≡ slot_in (latest_slot s) }
+pub fn latest_slot(x: &Index) -> Option<usize>
+    ensures { (s : Store) → Tied s x.now.head x.now.words → result ≡ slot_in (latest_slot s) }
 {
-    if h.newest < Cache::SLOTS {
-        return Some(h.newest);
+    if x.head.newest < Cache::SLOTS {
+        return Some(x.head.newest);
     }
-    greatest(h.free, ws)
+    greatest(x)
 }

@@ -7,6 +7,7 @@ use Rattle.model.specs.Model.{Model}
 use Rattle.index.specs.Memory.{Tied, shown, head_of, index_of}
 use Rattle.index.specs.Keeping.{same_head}
 use Rattle.index.specs.declared.Cache.{Cache}
+use Rattle.index.specs.declared.Index.{Index}
 use Rattle.refine.specs.Good.{Good}
 use Rattle.refine.proofs.FitOf.{fit_of}
 use Rattle.refine.specs.Layout.{store_of, table_of, sample_of, entries_of}
@@ -30,3 +31,15 @@ table-long m h ws t l = ap length l.table ∙ length-slots sample_of (entries_of
 -- value of that type has
 pub one-memory : (m : Model) (h k : Cache) (v w : List ℕ) (t u : List Sample) → Whole h.free → Whole k.free → Lies m h v t → Lies m k w u → (h ≡ k) × (v ≡ w) × (t ≡ u)
 one-memory m h k v w t u p q a b = (same_head h k p q (a.head ∙ sym b.head), a.words ∙ sym b.words, a.table ∙ sym b.table)
+
+made : Cache → List ℕ → Index
+made h ws = record { head = h; words = ws }
+
+same-index : (x y : Index) → x.head ≡ y.head → x.words ≡ y.words → x ≡ y
+unfolding made
+same-index x y e f = let whole : made x.head x.words ≡ made y.head y.words = rw (e, f) in whole
+
+-- the same, of header and words in one
+pub one-index : (m : Model) (x y : Index) (t u : List Sample) → Whole x.head.free → Whole y.head.free → Lies m x.head x.words t → Lies m y.head y.words u → (x ≡ y) × (t ≡ u)
+one-index m x y t u p q a b =
+    let z : (x.head ≡ y.head) × (x.words ≡ y.words) × (t ≡ u) = one-memory m x.head y.head x.words y.words t u p q a b in (same-index x y z.0 z.1, z.2)

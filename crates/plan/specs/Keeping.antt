@@ -20,9 +20,8 @@ use Rattle.store.specs.Store.{Inst, Store, Said, refused, added, Step, Wanted, p
 use Rattle.store.specs.Fit.{Fit, depth_of}
 use Rattle.index.specs.Memory.{cells_of, Tied}
 use Rattle.index.specs.declared.Cache.{Cache}
-use Rattle.index.specs.Words.{slot_in}
 use Rattle.index.specs.Keeping.{all-put, same_head}
-use Rattle.plan.specs.Plan.{Ready, Says, head_after, Made}
+use Rattle.plan.specs.Plan.{Ready, Says, Made}
 use Rattle.plan.specs.PlaceLaws.{moved-long}
 use Rattle.plan.specs.KeyedLaws.{place-le, any-default, fresh_cells, room-left}
 use Rattle.std.specs.declared.result.Result.{Result}
@@ -129,20 +128,19 @@ module _ (s : Store) (f : Fit s) (a : Wanted) where
       go (Some key) = fit-keying key
 
 -- what `plan` leaves is tied to the store after the add
-pub tied-adding : (s : Store) (a : Wanted) (h : Cache) (r : Result Planned Refusal) (end : List ℕ) → Fit s → Made (adding s a) h r end → Tied (adding s a).then (head_after h r) end
-tied-adding s a h r end f m = record { fit = fit-adding s f a; head = m.head; words = m.words }
+pub tied-adding : (s : Store) (a : Wanted) (r : Result Planned Refusal) (h : Cache) (end : List ℕ) → Fit s → Made (adding s a) r h end → Tied (adding s a).then h end
+tied-adding s a r h end f m = record { fit = fit-adding s f a; head = m.head; words = m.words }
 
 -- ---- one outcome for each step
 
-one-answer : (z : Said) (h : Cache) (r q : Result Planned Refusal) → head_after h r ≡ head_after h q → Says z r → Says z q → r ≡ q
-one-answer (refused n) h (Err e) (Err g) k a b = ap Err (same-refusal e g (a ∙ sym b))
-one-answer (added key slot was counts) h (Ok p) (Ok q) k a b =
-    ap Ok (a ∙ ap (λ (c : Cache). record { head = c; key = key; slot = slot; old = slot_in was; counts = counts }) k ∙ sym b)
-one-answer (refused n) h (Ok p) q k a b = absurd a
-one-answer (refused n) h (Err e) (Ok q) k a b = absurd b
-one-answer (added key slot was counts) h (Err e) q k a b = absurd a
-one-answer (added key slot was counts) h (Ok p) (Err e) k a b = absurd b
+one-answer : (z : Said) (r q : Result Planned Refusal) → Says z r → Says z q → r ≡ q
+one-answer (refused n) (Err e) (Err g) a b = ap Err (same-refusal e g (a ∙ sym b))
+one-answer (added key slot was counts) (Ok p) (Ok q) a b = ap Ok (a ∙ sym b)
+one-answer (refused n) (Ok p) q a b = absurd a
+one-answer (refused n) (Err e) (Ok q) a b = absurd b
+one-answer (added key slot was counts) (Err e) q a b = absurd a
+one-answer (added key slot was counts) (Ok p) (Err e) a b = absurd b
 
-pub one-outcome : (st : Step) (h : Cache) (r q : Result Planned Refusal) (v w : List ℕ) → Whole (head_after h r).free → Whole (head_after h q).free → Made st h r v → Made st h q w → (r ≡ q) × (v ≡ w)
-one-outcome st h r q v w x y m n =
-    (one-answer st.said h r q (same_head (head_after h r) (head_after h q) x y (m.head ∙ sym n.head)) m.answer n.answer, m.words ∙ sym n.words)
+pub one-outcome : (st : Step) (r q : Result Planned Refusal) (h k : Cache) (v w : List ℕ) → Whole h.free → Whole k.free → Made st r h v → Made st q k w → (r ≡ q) × ((h ≡ k) × (v ≡ w))
+one-outcome st r q h k v w x y m n =
+    (one-answer st.said r q m.answer n.answer, (same_head h k x y (m.head ∙ sym n.head), m.words ∙ sym n.words))

@@ -79,7 +79,7 @@ module _ (h : Cache) (ws : List ℕ) (name time : ℕ) (state : InstanceState) (
   next-is : key_of s.last time ≡ next
   next-is = sym (ns ∙ ap (λ (v : View). key_of v.last time) t.head)
 
-  pub no_key : (e : Refusal) → issued ≡ Err e → Made (adding s (wanted name time state)) h (Err e) ws
+  pub no_key : (e : Refusal) → issued ≡ Err e → Made (adding s (wanted name time state)) (Err e) h ws
   unfolding adding
   no_key e z =
       let g : (next ≡ None) × (refusal.NoLaterKey ≡ e) = none-given issued next refusal.NoLaterKey is e z in
@@ -102,7 +102,7 @@ module _ (h : Cache) (ws : List ℕ) (name time : ℕ) (state : InstanceState) (
     room_is : h.room ≡ s.room
     room_is = ap (λ (v : View). v.room) t.head
 
-    pub no_room : h.held ≤ row → h.room ≤ h.held → Made (adding s (wanted name time state)) h (Err refusal.NoMoreInstances) ws
+    pub no_room : h.held ≤ row → h.room ≤ h.held → Made (adding s (wanted name time state)) (Err refusal.NoMoreInstances) h ws
     unfolding keying
     no_room m l =
         rw (keyed-is, ← row_is, le-leb (length s.insts) row (omega (arith, count_is)), le-leb s.room (length s.insts) (omega (arith, count_is, room_is)))
@@ -141,12 +141,12 @@ module _ (h : Cache) (ws : List ℕ) (name time : ℕ) (state : InstanceState) (
         unfolding old
         stepped-is = ap (λ (m : InstanceMetaData). lifecycle_of m state) (sym (xs s name (held_of s h ws t))) ∙ sym ss
 
-        pub no_generation : (e : Refusal) → got ≡ Err e → Made (adding s (wanted name time state)) h (Err e) ws
+        pub no_generation : (e : Refusal) → got ≡ Err e → Made (adding s (wanted name time state)) (Err e) h ws
         no_generation e z =
             let g : (stepped ≡ None) × (refusal.NoMoreGenerations ≡ e) = none-given got stepped refusal.NoMoreGenerations gs e z in
             rw (living-is, stepped-is, g.0, ← g.1) (made-refused s h ws refusal.NoMoreGenerations t)
 
-        pub placed : (out : Result Planned Refusal) (end : List ℕ) (y : InstanceMetaData) → got ≡ Ok y
-            → ((z : Store) (i : Inst) → Tied z h ws → Ready z row i → name ≡ i.name → y ≡ i.meta → Made (placing z row i key) h out end)
-            → Made (adding s (wanted name time state)) h out end
-        placed out end y z p = rw (living-is, stepped-is, one-given got stepped refusal.NoMoreGenerations gs y z) (p s (with_meta old y) t (ready y) named refl)
+        pub placed : (out : Result Planned Refusal) (head : Cache) (end : List ℕ) (y : InstanceMetaData) → got ≡ Ok y
+            → ((z : Store) (i : Inst) → Tied z h ws → Ready z row i → name ≡ i.name → y ≡ i.meta → Made (placing z row i key) out head end)
+            → Made (adding s (wanted name time state)) out head end
+        placed out head end y z p = rw (living-is, stepped-is, one-given got stepped refusal.NoMoreGenerations gs y z) (p s (with_meta old y) t (ready y) named refl)

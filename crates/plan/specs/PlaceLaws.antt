@@ -1,6 +1,6 @@
 -- What placing a sample comes to, from what the steps of the code say.
 use Rattle.std.specs.Prelude.{Option, Some, None, MatchOption, ok_or, ◌≡◌, refl, Bool, false, cond, get_or, eqb, ◌⊎◌, max}
-use Rattle.std.proofs.Common.{inl, inr, sym, ◌∙◌, ⊎_elim, eq-or-lt_of_le, arith, lt-ltb}
+use Rattle.std.proofs.Common.{inl, inr, sym, ◌∙◌, ⊎_elim, eq-or-lt_of_le, arith}
 use Rattle.std.proofs.Math.Path.{ap}
 use Rattle.std.proofs.Math.Bool.{true}
 use mathlib.Core.List.{List, map}
@@ -62,7 +62,7 @@ slot-some n slot e = go (ltb n 256) refl
     go false q = let no : ◌≡◌ {A = Option ℕ} None (Some slot) = rw q at e in absurd (cc)
 
 -- a refusal leaves header and words as they are
-pub made-refused : (s : Store) (h : Cache) (ws : List ℕ) (e : Refusal) → Tied s h ws → Made (declined (number_of e) s) h (Err e) ws
+pub made-refused : (s : Store) (h : Cache) (ws : List ℕ) (e : Refusal) → Tied s h ws → Made (declined (number_of e) s) (Err e) h ws
 made-refused s h ws e t = record { answer = refl; head = t.head; words = t.words }
 
 held-put : (is : List Inst) (at held : ℕ) (j : Inst) → held ≡ length is → at ≤ length is → max held (at + 1) ≡ length (put_at at j is)
@@ -136,10 +136,10 @@ module _ (h : Cache) (ws : List ℕ) (row name : ℕ) (x : InstanceMetaData) (ke
 
   module _ (found : Option Window) (got : Result Window Refusal) (of : MatchOption found ((256 < h.depth) ⊎ (32 ≤ row)) (λ w. (w.depth ≡ h.depth) × (w.row ≡ row))) (gs : got ≡ ok_or found refusal.NoFreeSlot) where
     -- a window that there is not is no store's
-    pub place-out : (e : Refusal) → got ≡ Err e → Made (placing s row i key) h (Err e) ws
+    pub place-out : (e : Refusal) → got ≡ Err e → Made (placing s row i key) (Err e) h ws
     place-out e z = let n : (found ≡ None) × (refusal.NoFreeSlot ≡ e) = none-given got found refusal.NoFreeSlot gs e z in go (rw n.0 at of)
       where
-        go : (256 < h.depth) ⊎ (32 ≤ row) → Made (placing s row i key) h (Err e) ws
+        go : (256 < h.depth) ⊎ (32 ≤ row) → Made (placing s row i key) (Err e) h ws
         go (inl m) = absurd (omega (arith, deep_room s.keep s.room row t.fit.deep r.space, depth_is))
         go (inr m) = absurd (omega (arith, r.space, t.fit.rooms))
 
@@ -162,7 +162,7 @@ module _ (h : Cache) (ws : List ℕ) (row name : ℕ) (x : InstanceMetaData) (ke
           roomy-long = ap length roomy-is ∙ simp length-set t.fit.free
 
           module _ (lowest : Option ℕ) (chosen : Result ℕ Refusal) (l : lowest ≡ slot_in (first_one roomy)) (cs : chosen ≡ ok_or lowest refusal.NoFreeSlot) where
-            pub place-full : (e : Refusal) → chosen ≡ Err e → Made (placing s row i key) h (Err e) ws
+            pub place-full : (e : Refusal) → chosen ≡ Err e → Made (placing s row i key) (Err e) h ws
             unfolding placing
             place-full e y =
                 let n : (lowest ≡ None) × (refusal.NoFreeSlot ≡ e) = none-given chosen lowest refusal.NoFreeSlot cs e y in
@@ -171,16 +171,8 @@ module _ (h : Cache) (ws : List ℕ) (row name : ℕ) (x : InstanceMetaData) (ke
 
             pub place-done : (slot : ℕ) → chosen ≡ Ok slot → (taken : Free) (held : ℕ) (end : List ℕ) → bits_of taken.words ≡ set roomy slot 0 → held ≡ max h.held (row + 1)
                 → end ≡ committed ws v.depth v.row name x key slot old
-                → Made (placing s row i key) h
-                (Ok
-                (record {
-                  head = record { depth = h.depth; room = h.room; held = held; last = Some key; newest = slot; free = taken };
-                  key = key;
-                  slot = slot;
-                  old = slot_in old;
-                  counts = counts_of x;
-                }))
-                end
+                → Made (placing s row i key) (Ok (record { key = key; slot = slot; old = slot_in old; counts = counts_of x }))
+                (record { depth = h.depth; room = h.room; held = held; last = Some key; newest = slot; free = taken }) end
             unfolding placing filling
             place-done slot y taken held end b k w =
                 let low : (ltb (first_one roomy) 256 ≡ true) × (slot ≡ first_one roomy) = slot-some (first_one roomy) slot (sym l ∙ one-given chosen lowest refusal.NoFreeSlot cs slot y) in

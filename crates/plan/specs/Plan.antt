@@ -21,17 +21,12 @@ abbrev pub Says : Said → Result Planned Refusal → Type 0
 Says (refused n) (Err e) = number_of e ≡ n
 Says (refused n) (Ok p) = ⊥
 Says (added key slot old counts) (Err e) = ⊥
-Says (added key slot old counts) (Ok p) = p ≡ record { head = p.head; key = key; slot = slot; old = slot_in old; counts = counts }
+Says (added key slot old counts) (Ok p) = p ≡ record { key = key; slot = slot; old = slot_in old; counts = counts }
 
--- a refusal leaves the header as it is
-abbrev pub head_after : Cache → Result Planned Refusal → Cache
-head_after h (Err e) = h
-head_after h (Ok p) = p.head
-
--- what an outcome says, its header and the words are those of a step
-pub record Made (st : Step) (h : Cache) (r : Result Planned Refusal) (ws : List ℕ) : Type 0 where
+-- what an outcome says, the header and the words are those of a step
+pub record Made (st : Step) (r : Result Planned Refusal) (h : Cache) (ws : List ℕ) : Type 0 where
   pub answer : Says st.said r
-  pub head : shown (head_after h r) ≡ head_of st.then
+  pub head : shown h ≡ head_of st.then
   pub words : ws ≡ index_of st.then
 
 -- an instance that may be put in a row: the window there is its window

@@ -1,20 +1,19 @@
 // An add, decided and written on numbers alone: the key, the instance's row, its lifecycle step, the slot.
 #![tactic(auto)]
 
-ghost use Rattle.std.specs.Prelude.{◌≡◌, cond, ◌&&◌, ℕ, ◌+◌, ◌*◌, ◌<◌, ◌≤◌, get_or, ltb, leb, eqb};
+ghost use Rattle.std.specs.Prelude.{◌≡◌, cond, ◌&&◌, ℕ, ◌+◌, ◌*◌, ◌<◌, ◌≤◌, get_or, ltb, leb, eqb, OnErr};
 ghost use Rattle.store.specs.Store.{Store, Inst, adding, placing, fresh_inst};
 ghost use Rattle.index.specs.Words.{cells_in};
 ghost use Rattle.index.specs.Memory.{Tied, Held};
 ghost use Rattle.plan.specs.Plan.{wanted, Ready, Made, moved_along, committed};
 
-use index::{Cache, Window};
+use index::{Cache, Index, Window};
 use refusals::Refusal;
 use sampleinfo::{InstanceMetaData, InstanceState, NotAliveGenerationCounts};
 
-// What an accepted add comes to: the header after it, and what its answer tells.
+// What the answer of an accepted add tells.
 #[derive(Clone, Copy)]
 pub struct Planned {
-    pub head: Cache,
     pub key: u64,
     pub slot: usize,
     // the slot that was pushed out
@@ -36,6 +35,7 @@ fn oldest(ws: &[u64; Cache::WORDS], window: Window) -> usize
 }
 
 // The window moves on by one: each cell takes what its next one held, and the last takes the slot.
+// Kept: cell by cell, as `shifting` is defined: a window may reach past the cells, where a store changes nothing.
 #[tactic(auto, unfolding(crate::specs::Plan::moved_along, crate::specs::Plan::shifting))]
 fn move_on(ws: &mut [u64; Cache::WORDS], window: Window, slot: usize)
     ensures { ws.new ≡ moved_along ws.old (window.depth * window.row) window.depth slot }
@@ -74,67 +74,57 @@ fn commit(
 
 // Room is made first, then the slot is chosen.
 fn place(
-    h: Cache,
-    ws: &mut [u64; Cache::WORDS],
+    x: &mut Index,
     row: usize,
     name: u64,
-    x: InstanceMetaData,
+    imd: InstanceMetaData,
     key: u64,
 ) -> Result<Planned, Refusal>
-    ensures { (s : Store) (i : Inst) → Tied s h ws.old → Ready s row i → name ≡ i.name → x ≡ i.meta → Made (placing s row i key) h result ws.new }
+    ensures made { (s : Store) (i : Inst) → Tied s x.old.head x.old.words → Ready s row i → name ≡ i.name → imd ≡ i.meta → Made (placing s row i key) result x.new.head x.new.words }
+    ensures as_found { OnErr result (x.new ≡ x.old) }
 {
-    let window = Window::of(h.depth, row).ok_or(Refusal::NoFreeSlot)?;
-    let old = oldest(ws, window);
-    let roomy = h.free.give(old);
-    let slot = h.free.slot_for(roomy).ok_or(Refusal::NoFreeSlot)?;
-    commit(ws, window, name, x, key, slot, old);
+    let window = Window::of(x.head.depth, row).ok_or(Refusal::NoFreeSlot)?;
+    let old = oldest(&x.words, window);
+    let roomy = x.head.free.give(old);
+    let slot = x.head.free.slot_for(roomy).ok_or(Refusal::NoFreeSlot)?;
+    commit(&mut x.words, window, name, imd, key, slot, old);
+    x.head = Cache {
+        held: x.head.held.max(row + 1),
+        last: Some(key),
+        newest: slot,
+        free: roomy.take(slot),
+        ..x.head
+    };
     Ok(Planned {
-        head: Cache {
-            held: h.held.max(row + 1),
-            last: Some(key),
-            newest: slot,
-            free: roomy.take(slot),
-            ..h
-        },
         key,
         slot,
         old: (old < Cache::SLOTS).then_some(old),
-        counts: x.latest_generation_available,
+        counts: imd.latest_generation_available,
     })
 }
 
 // The record of the row's instance, or that of a new one.
-fn old_meta(
-    ws: &[u64; Cache::WORDS],
-    held: usize,
-    row: usize,
-    state: InstanceState,
-) -> InstanceMetaData
-    ensures { (s : Store) (n : ℕ) → Held s held ws.now → result ≡ (get_or s.insts row (fresh_inst s.keep n state)).meta }
+fn old_meta(x: &Index, row: usize, state: InstanceState) -> InstanceMetaData
+    ensures { (s : Store) (n : ℕ) → Held s x.now.head.held x.now.words → result ≡ (get_or s.insts row (fresh_inst s.keep n state)).meta }
 {
-    if row < held {
-        index::meta_at(ws, row)
+    if row < x.head.held {
+        index::meta_at(&x.words, row)
     } else {
         InstanceMetaData::new(state)
     }
 }
 
-// What an add does: it is refused, or has its key, its slot and what it pushes out.
-pub fn plan(
-    h: Cache,
-    ws: &mut [u64; Cache::WORDS],
-    name: u64,
-    time: u64,
-    state: InstanceState,
-) -> Result<Planned, Refusal>
-    ensures { (s : Store) → Tied s h ws.old → Made (adding s (wanted name time state)) h result ws.new }
+// What an add does: it is refused and leaves all as found, or has its key, its slot and what it pushes out.
+pub fn plan(x: &mut Index, name: u64, time: u64, state: InstanceState) -> Result<Planned, Refusal>
+    ensures made { (s : Store) → Tied s x.old.head x.old.words → Made (adding s (wanted name time state)) result x.new.head x.new.words }
+    ensures as_found { OnErr result (x.new ≡ x.old) }
 {
-    let key = keys::next(h.last, time).ok_or(Refusal::NoLaterKey)?;
-    let row = index::find(ws, h.held, name);
-    if h.held <= row && h.room <= h.held {
+    let key = keys::next(x.head.last, time).ok_or(Refusal::NoLaterKey)?;
+    let row = index::find(&x.words, x.head.held, name);
+    if x.head.held <= row && x.head.room <= x.head.held {
         return Err(Refusal::NoMoreInstances);
     }
-    let before = old_meta(ws, h.held, row, state);
+    let before = old_meta(x, row, state);
     let after = sampleinfo::lifecycle(before, state).ok_or(Refusal::NoMoreGenerations)?;
-    place(h, ws, row, name, after, key)
+    place(x, row, name, after, key)
 }

@@ -114,13 +114,13 @@ pub fn info_line(page: &mut Page, info: Info)
 {
     let counts = info.generation_counts;
     let words = [
-        Word::Number(info.body.handle() as u64),
-        Word::Number(info.body.kind() as u64),
-        Word::Number(info.sample_state.bit() as u64),
-        Word::Number(info.view_state.bit() as u64),
-        Word::Number(info.instance_state.bit() as u64),
-        Word::Number(counts.disposed_generation_count as u64),
-        Word::Number(counts.no_writers_generation_count as u64),
+        Word::Number(u64::from(info.body.handle())),
+        Word::Number(u64::from(info.body.kind())),
+        Word::Number(u64::from(info.sample_state.bit())),
+        Word::Number(u64::from(info.view_state.bit())),
+        Word::Number(u64::from(info.instance_state.bit())),
+        Word::Number(u64::from(counts.disposed_generation_count)),
+        Word::Number(u64::from(counts.no_writers_generation_count)),
         Word::Number(info.sample_rank),
         Word::Signed(info.generation_rank),
         Word::Signed(info.absolute_generation_rank),

@@ -69,7 +69,7 @@ pub fn byte(rec: &[u8], at: usize, i: usize) -> u8
     rec.get(at.saturating_add(i)).copied().unwrap_or(0)
 }
 
-// The N bytes from place at on.
+// The N bytes from place at on. Not by `array::from_fn`: no fact ties its calls to what the closure holds.
 fn bytes_at<const N: usize>(rec: &[u8], at: usize) -> [u8; N]
     ensures { result ≡ bytes_at N rec.now at }
 {
@@ -168,7 +168,7 @@ fn count_in(rec: &[u8]) -> u16
 fn list_size(count: u16) -> usize
     ensures { result ≡ list_size count }
 {
-    PAIRS_AT + PAIR_SIZE * (count as usize)
+    PAIRS_AT + PAIR_SIZE * usize::from(count)
 }
 
 // ---- the request
@@ -211,8 +211,7 @@ fn count(q: Option<Request>) -> u16
     ensures { result ≡ count_of q }
 {
     match q {
-        Some(Request::Read(n)) => n,
-        Some(Request::Take(n)) => n,
+        Some(Request::Read(n) | Request::Take(n)) => n,
         _ => 0,
     }
 }
@@ -222,7 +221,7 @@ fn words(rec: &[u8]) -> usize
     ensures value { result ≡ 2 * list_count rec.now }
     ensures upper_bound { result ≤ 131070 }
 {
-    2 * (count(decode(rec)) as usize)
+    2 * usize::from(count(decode(rec)))
 }
 
 // The pairs of a list record go to the front of the lent words, a key and then its instance, and the answer is the number of words.
@@ -233,6 +232,7 @@ pub fn pairs_of(rec: &[u8], out: &mut [u64]) -> usize
 {
     let n = words(rec);
     if n <= out.len() {
+        // By index: of `out[..n]` lent to `iter_mut` no fact says what `out` ends as.
         for i in 0..n {
             out[i] = u64_at(rec, PAIRS_AT + 8 * i);
         }
@@ -264,8 +264,7 @@ impl Request {
     {
         match self {
             Request::Add(a) => a.is_faulty(),
-            Request::Choose(c) => !c.is_valid(),
-            Request::ChooseWithin(_, c) => !c.is_valid(),
+            Request::Choose(c) | Request::ChooseWithin(_, c) => !c.is_valid(),
             _ => false,
         }
     }

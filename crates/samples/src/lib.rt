@@ -36,10 +36,7 @@ fn mark(t: &mut [Sample], i: usize)
 pub fn peek(t: &[Sample], i: usize) -> Sample
     ensures { result ≡ peek_at t.now i }
 {
-    match t.get(i) {
-        Some(s) => *s,
-        None => Sample::empty(),
-    }
+    t.get(i).copied().unwrap_or(Sample::empty())
 }
 
 // The slot gets the empty record back. A number past the end changes nothing.
@@ -61,6 +58,7 @@ pub fn store(t: &mut [Sample], i: usize, s: Sample)
 }
 
 // Room is made first: the record of the slot that is pushed out goes, and is the answer; then the other slot gets its record.
+// Kept: `old` is 256 for none, as `swapped` has it: past the table nothing is emptied and the answer is the empty record.
 pub fn swap(t: &mut [Sample], old: usize, slot: usize, s: Sample) -> Sample
     ensures value { result ≡ peek_at t.old old }
     ensures t_after { t.new ≡ swapped t.old old slot s }
@@ -72,6 +70,7 @@ pub fn swap(t: &mut [Sample], old: usize, slot: usize, s: Sample) -> Sample
 }
 
 // What a list does to a slot: a take empties it, a read marks its record. A number past the end changes nothing.
+// Kept: `take` is the model's own Bool, as `touched` has it.
 pub fn touch(t: &mut [Sample], i: usize, take: bool)
     ensures { t.new ≡ touched t.old i take }
 {
@@ -96,14 +95,14 @@ pub fn fill(t: &mut [Sample])
 
 // ---- what a choice asks of each record, as numbers: sequence number, sample state, total
 
+// Kept flat, three words a slot: the definition `gathered` has them so.
 fn put_seen(out: &mut [u64; 768], i: usize, s: Sample)
     requires { i < 256 }
     ensures { out.new ≡ put_seen out.old i s }
 {
     let at = 3 * i;
-    let state = s.sample_state();
     out[at] = s.sequence_number;
-    out[at + 1] = state.bit() as u64;
+    out[at + 1] = u64::from(s.sample_state().bit());
     out[at + 2] = s.total();
 }
 

@@ -10,52 +10,50 @@ use Rattle.refusals.specs.declared.Refusal.TheVariants as refusal
 use Rattle.sampleinfo.specs.declared.Sample.{Sample}
 use Rattle.model.specs.Model.{Model, Answer, refused, ok, added, selected, infos, next}
 use Rattle.refine.specs.Good.{Good}
-use Rattle.index.specs.declared.Cache.{Cache}
+use Rattle.index.specs.declared.Index.{Index}
 use Rattle.memory.specs.Lies.{Lies}
 use Rattle.pairs.specs.Flat.{pair_words}
 use Rattle.infos.specs.Words.{infos_then}
 use Rattle.records.specs.Format.{too_long, call_of, bad}
-use Rattle.replies.specs.Steps.{session_after, reply_in}
 use Rattle.bounds.specs.Small.{AllSmall}
 use Rattle.printing.specs.Printout.{printed}
 use Rattle.printing.specs.Lines.{Laid}
 use Rattle.answers.specs.Says.{Says}
 use Rattle.session.specs.Session.{Turn, turn}
 use Rattle.replies.specs.declared.Session.{Session}
-use Rattle.replies.specs.declared.Replied.{Replied}
-use Rattle.session.specs.declared.Answered.{Answered}
+use Rattle.answers.specs.declared.Reply.{Reply}
 
--- under the header that a session holds
-abbrev pub Held : Model → the_code.Option Cache → List ℕ → List Sample → Type 0
-Held m None ws t = ⊥
-Held m (Some h) ws t = Lies m h ws t
+-- in the index that a session holds
+abbrev pub Held : Model → the_code.Option Index → List Sample → Type 0
+Held m None t = ⊥
+Held m (Some x) t = Lies m x.head x.words t
 
 -- a cache that only the calls have changed, as it lies in memory
-pub record Ready (m : Model) (s : Session) (ws : List ℕ) (t : List Sample) : Type 0 where
-  pub ready : is_some s.head ≡ true
+pub record Ready (m : Model) (s : Session) (t : List Sample) : Type 0 where
+  pub ready : is_some s.index ≡ true
   pub good : Good m
   pub small : AllSmall m
-  pub lies : Held m s.head ws t
+  pub lies : Held m s.index t
 
 -- before an accepted set-up there is only the room for the table
 pub record Unready (s : Session) (t : List Sample) : Type 0 where
-  pub unready : s.head ≡ None
+  pub unready : s.index ≡ None
   pub long : length t ≡ 256
 
-abbrev pub Stands : Option Model → Session → List ℕ → List Sample → Type 0
-Stands none s ws t = Unready s t
-Stands (some m) s ws t = Ready m s ws t
+abbrev pub Stands : Option Model → Session → List Sample → Type 0
+Stands none s t = Unready s t
+Stands (some m) s t = Ready m s t
 
 -- memory in which something stands
-pub record Standing (s : Session) (ws : List ℕ) (t : List Sample) : Type 0 where
+pub record Standing (s : Session) (t : List Sample) : Type 0 where
   pub what : Option Model
-  pub stands : Stands what s ws t
+  pub stands : Stands what s t
 
 -- where nothing stands afterwards, all is as found: "Every refusal returns its number only; state and lent buffers stay as found." Where a cache stands,
 -- `Stands` says what lies there
-abbrev pub Kept : Option Model → Session → List ℕ → List Sample → Session → List ℕ → List Sample → Type 0
-Kept none s ws t s' after then = (s' ≡ s) × (after ≡ ws) × (then ≡ t)
-Kept (some m) s ws t s' after then = Unit {0}
+abbrev pub Kept : Option Model → Session → List Sample → Session → List Sample → Type 0
+Kept none s t s' then = (s' ≡ s) × (then ≡ t)
+Kept (some m) s t s' then = Unit {0}
 
 -- the result buffers: an answer stands first in its own one, "Result places past the answer keep what they held", and what has no pairs or infos
 -- leaves them, every refusal among it
@@ -75,27 +73,27 @@ infos_left (added k n e) was = was
 infos_left (selected ps) was = was
 infos_left (next k) was = was
 
--- the reply, with the pairs and the infos beside it, says the answer. As found: s, ws, t, and the buffers ps and is; as left: after, then, qs and js
-pub record Answers (u : Turn) (s : Session) (ws : List ℕ) (t : List Sample) (ps is : List ℕ) (r : Result Replied Refusal) (after : List ℕ) (then : List Sample) (qs js : List ℕ) : Type 0 where
-  pub says : Says (reply_in r) qs js u.answer
-  pub stands : Stands u.then (session_after s r) after then
-  pub kept : Kept u.then s ws t (session_after s r) after then
+-- the reply, with the pairs and the infos beside it, says the answer. As found: s, t, and the buffers ps and is; as left: s', then, qs and js
+pub record Answers (u : Turn) (s : Session) (t : List Sample) (ps is : List ℕ) (r : Result Reply Refusal) (s' : Session) (then : List Sample) (qs js : List ℕ) : Type 0 where
+  pub says : Says r qs js u.answer
+  pub stands : Stands u.then s' then
+  pub kept : Kept u.then s t s' then
   pub pairs : qs ≡ pairs_left u.answer ps
   pub infos : js ≡ infos_left u.answer is
 
 -- a record's reply: its turn, where something stands; and a malformed record is refused with 1 and leaves all as found, whatever lies in memory
-pub record Turns (rec : List ℕ) (s : Session) (ws : List ℕ) (t : List Sample) (ps is : List ℕ) (r : Result Replied Refusal) (after : List ℕ) (then : List Sample) (qs js : List ℕ) : Type 0 where
-  pub stood : (st : Option Model) → length rec < too_long → Stands st s ws t → Answers (turn st rec) s ws t ps is r after then qs js
-  pub malformed : bad (call_of rec) ≡ true → (r ≡ Err refusal.Malformed) × (after ≡ ws) × (then ≡ t) × (qs ≡ ps) × (js ≡ is)
+pub record Turns (rec : List ℕ) (s : Session) (t : List Sample) (ps is : List ℕ) (r : Result Reply Refusal) (s' : Session) (then : List Sample) (qs js : List ℕ) : Type 0 where
+  pub stood : (st : Option Model) → length rec < too_long → Stands st s t → Answers (turn st rec) s t ps is r s' then qs js
+  pub malformed : bad (call_of rec) ≡ true → (r ≡ Err refusal.Malformed) × (s' ≡ s) × (then ≡ t) × (qs ≡ ps) × (js ≡ is)
 
--- the lines of the answer stand first in the lent bytes, and the rest of them is as it was
-pub record Responds (u : Turn) (s : Session) (ws : List ℕ) (t : List Sample) (ps is was : List ℕ) (r : Answered) (after : List ℕ) (then : List Sample) (qs js line : List ℕ) : Type 0 where
-  pub lines : Laid was 0 (printed u.answer) line r.size
-  pub stands : Stands u.then r.session after then
-  pub kept : Kept u.then s ws t r.session after then
+-- the lines of the answer stand first in the lent bytes, and the rest of them is as it was; n is how many bytes they are
+pub record Responds (u : Turn) (s : Session) (t : List Sample) (ps is was : List ℕ) (n : ℕ) (s' : Session) (then : List Sample) (qs js line : List ℕ) : Type 0 where
+  pub lines : Laid was 0 (printed u.answer) line n
+  pub stands : Stands u.then s' then
+  pub kept : Kept u.then s t s' then
   pub pairs : qs ≡ pairs_left u.answer ps
   pub infos : js ≡ infos_left u.answer is
 
-pub record Responded (rec : List ℕ) (s : Session) (ws : List ℕ) (t : List Sample) (ps is was : List ℕ) (r : Answered) (after : List ℕ) (then : List Sample) (qs js line : List ℕ) : Type 0 where
-  pub stood : (st : Option Model) → length rec < too_long → Stands st s ws t → Responds (turn st rec) s ws t ps is was r after then qs js line
-  pub malformed : bad (call_of rec) ≡ true → Laid was 0 (printed (refused 1)) line r.size × (r.session ≡ s) × (after ≡ ws) × (then ≡ t) × (qs ≡ ps) × (js ≡ is)
+pub record Responded (rec : List ℕ) (s : Session) (t : List Sample) (ps is was : List ℕ) (n : ℕ) (s' : Session) (then : List Sample) (qs js line : List ℕ) : Type 0 where
+  pub stood : (st : Option Model) → length rec < too_long → Stands st s t → Responds (turn st rec) s t ps is was n s' then qs js line
+  pub malformed : bad (call_of rec) ≡ true → Laid was 0 (printed (refused 1)) line n × (s' ≡ s) × (then ≡ t) × (qs ≡ ps) × (js ≡ is)

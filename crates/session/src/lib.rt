@@ -14,45 +14,28 @@ ghost use Rattle.session.specs.Session.{answering};
 ghost use Rattle.session.specs.Stands.{Stands, Answers, Turns, Responded};
 
 use answers::Reply;
-use index::Cache;
+use index::Index;
 use readcondition::ReadCondition;
 use records::Request;
 use refusals::Refusal;
-use replies::{Replied, Session};
+use replies::Session;
 use sampleinfo::Sample;
-
-// The session after a record, and how many bytes of the lent buffer answer it.
-#[derive(Clone, Copy)]
-pub struct Answered {
-    pub session: Session,
-    pub size: usize,
-}
 
 // ---- set-up
 
-fn do_set_up(
-    ws: &mut [u64; Cache::WORDS],
-    t: &mut [Sample],
-    u: records::SetUp,
-) -> Result<Replied, Refusal>
-    ensures { (ps is : List ℕ) → Stands Option.none (session_of None) ws.old t.old → Answers (answering Option.none (model.set_up (set_up_meant u))) (session_of None) ws.old t.old ps is result ws.new t.new ps is }
+fn do_set_up(s: &mut Session, t: &mut [Sample], u: records::SetUp) -> Result<Reply, Refusal>
+    ensures { (ps is : List ℕ) → Stands Option.none s.old t.old → Answers (answering Option.none (model.set_up (set_up_meant u))) s.old t.old ps is result s.new t.new ps is }
 {
-    replies::set_up_done(datasample_cache::set_up(ws, t, u.mode, u.keep, u.instances))
+    s.set_up_done(datasample_cache::set_up(t, u.mode, u.keep, u.instances))
 }
 
 // ---- adding
 
-fn do_add(
-    h: Cache,
-    ws: &mut [u64; Cache::WORDS],
-    t: &mut [Sample],
-    a: records::Arrival,
-) -> Result<Replied, Refusal>
-    ensures { (m : Model) (ps is : List ℕ) → Stands (Option.some m) (session_of (Some h)) ws.old t.old → Answers (answering (Option.some m) (model.add (arrival_meant a))) (session_of (Some h)) ws.old t.old ps is result ws.new t.new ps is }
+fn do_add(x: &mut Index, t: &mut [Sample], a: records::Arrival) -> Result<Reply, Refusal>
+    ensures { (m : Model) (ps is : List ℕ) → Stands (Option.some m) (session_of (Some x.old)) t.old → Answers (answering (Option.some m) (model.add (arrival_meant a))) (session_of (Some x.old)) t.old ps is result (session_of (Some x.new)) t.new ps is }
 {
     let r = datasample_cache::add(
-        h,
-        ws,
+        x,
         t,
         a.instance,
         a.writer,
@@ -68,133 +51,122 @@ fn do_add(
 
 // Over all instances, or within the one named.
 fn do_choose(
-    h: Cache,
-    ws: &[u64; Cache::WORDS],
+    x: &Index,
     t: &[Sample],
     within: Option<u64>,
     rc: ReadCondition,
     pairs: &mut [u64; Reply::PAIRS_SIZE],
-) -> Result<Replied, Refusal>
-    ensures { (m : Model) (is : List ℕ) → Stands (Option.some m) (session_of (Some h)) ws.now t.now → Answers (answering (Option.some m) (model.choose (scope_of within) rc buffer)) (session_of (Some h)) ws.now t.now pairs.old is result ws.now t.now pairs.new is }
+) -> Result<Reply, Refusal>
+    ensures { (m : Model) (is : List ℕ) → Stands (Option.some m) (session_of (Some x.now)) t.now → Answers (answering (Option.some m) (model.choose (scope_of within) rc buffer)) (session_of (Some x.now)) t.now pairs.old is result (session_of (Some x.now)) t.now pairs.new is }
 {
-    replies::choose_done(h, datasample_select::choose(h, ws, t, within, rc, pairs))
+    replies::choose_done(datasample_select::choose(x, t, within, rc, pairs))
 }
 
 // ---- reading and taking
 
 // The two calls differ in the function alone; it is not passed in, since the contract of a bound over five lent arguments would say what theirs say again.
 fn do_list(
-    h: Cache,
-    ws: &mut [u64; Cache::WORDS],
+    x: &mut Index,
     t: &mut [Sample],
     rec: &[u8],
     take: bool,
     infos: &mut [u64; Reply::INFOS_SIZE],
-) -> Result<Replied, Refusal>
-    ensures { (m : Model) (ps : List ℕ) → length rec.now < too_long → Stands (Option.some m) (session_of (Some h)) ws.old t.old → Answers (answering (Option.some m) (model.read_or_take take (list_pairs rec.now) buffer)) (session_of (Some h)) ws.old t.old ps infos.old result ws.new t.new ps infos.new }
+) -> Result<Reply, Refusal>
+    ensures { (m : Model) (ps : List ℕ) → length rec.now < too_long → Stands (Option.some m) (session_of (Some x.old)) t.old → Answers (answering (Option.some m) (model.read_or_take take (list_pairs rec.now) buffer)) (session_of (Some x.old)) t.old ps infos.old result (session_of (Some x.new)) t.new ps infos.new }
 {
     let mut words = [0u64; Request::LIST_WORDS];
     let n = records::pairs_of(rec, &mut words);
     let list = replies::asked(&words, n);
     if take {
-        return replies::list_done(datasample_access::take_by_keys(h, ws, t, list, infos));
+        return replies::list_done(datasample_access::take_by_keys(x, t, list, infos));
     }
-    replies::list_done(datasample_access::read_by_keys(h, ws, t, list, infos))
+    replies::list_done(datasample_access::read_by_keys(x, t, list, infos))
 }
 
 // ---- the no-writers event, and the next key
 
-fn do_no_writers(h: Cache, ws: &mut [u64; Cache::WORDS], instance: u64) -> Result<Replied, Refusal>
-    ensures { (m : Model) (t : List Sample) (ps is : List ℕ) → Stands (Option.some m) (session_of (Some h)) ws.old t → Answers (answering (Option.some m) (model.no_writers instance)) (session_of (Some h)) ws.old t ps is result ws.new t ps is }
+fn do_no_writers(x: &mut Index, instance: u64) -> Result<Reply, Refusal>
+    ensures { (m : Model) (t : List Sample) (ps is : List ℕ) → Stands (Option.some m) (session_of (Some x.old)) t → Answers (answering (Option.some m) (model.no_writers instance)) (session_of (Some x.old)) t ps is result (session_of (Some x.new)) t ps is }
 {
-    replies::event_done(h, datasample_cache::no_writers(h, ws, instance))
+    replies::event_done(datasample_cache::no_writers(x, instance))
 }
 
-fn do_next_key(h: Cache, ws: &[u64; Cache::WORDS], instance: u64) -> Replied
-    ensures { (m : Model) (t : List Sample) (ps is : List ℕ) → Stands (Option.some m) (session_of (Some h)) ws.now t → Answers (answering (Option.some m) (model.next_key instance)) (session_of (Some h)) ws.now t ps is (Ok result) ws.now t ps is }
+fn do_next_key(x: &Index, instance: u64) -> Reply
+    ensures { (m : Model) (t : List Sample) (ps is : List ℕ) → Stands (Option.some m) (session_of (Some x.now)) t → Answers (answering (Option.some m) (model.next_key instance)) (session_of (Some x.now)) t ps is (Ok result) (session_of (Some x.now)) t ps is }
 {
-    Replied {
-        head: h,
-        reply: Reply::Next(datasample_cache::next_key(h, ws, instance)),
-    }
+    Reply::Next(datasample_cache::next_key(x, instance))
 }
 
 // ---- a record
 
 // Before an accepted set-up.
-fn begin(ws: &mut [u64; Cache::WORDS], t: &mut [Sample], q: Request) -> Result<Replied, Refusal>
-    ensures { (qs : List Pair) (ps is : List ℕ) → Stands Option.none (session_of None) ws.old t.old → Answers (answering Option.none (op_meant q qs)) (session_of None) ws.old t.old ps is result ws.new t.new ps is }
+fn begin(s: &mut Session, t: &mut [Sample], q: Request) -> Result<Reply, Refusal>
+    ensures { (qs : List Pair) (ps is : List ℕ) → Stands Option.none s.old t.old → Answers (answering Option.none (op_meant q qs)) s.old t.old ps is result s.new t.new ps is }
 {
     match q {
-        Request::SetUp(u) => do_set_up(ws, t, u),
+        Request::SetUp(u) => do_set_up(s, t, u),
         _ => Err(Refusal::OutOfTurn),
     }
 }
 
 // After one.
 fn ask(
-    h: Cache,
-    ws: &mut [u64; Cache::WORDS],
+    x: &mut Index,
     t: &mut [Sample],
     rec: &[u8],
     q: Request,
     pairs: &mut [u64; Reply::PAIRS_SIZE],
     infos: &mut [u64; Reply::INFOS_SIZE],
-) -> Result<Replied, Refusal>
-    ensures { (m : Model) → length rec.now < too_long → Stands (Option.some m) (session_of (Some h)) ws.old t.old → Answers (answering (Option.some m) (op_meant q (list_pairs rec.now))) (session_of (Some h)) ws.old t.old pairs.old infos.old result ws.new t.new pairs.new infos.new }
+) -> Result<Reply, Refusal>
+    ensures { (m : Model) → length rec.now < too_long → Stands (Option.some m) (session_of (Some x.old)) t.old → Answers (answering (Option.some m) (op_meant q (list_pairs rec.now))) (session_of (Some x.old)) t.old pairs.old infos.old result (session_of (Some x.new)) t.new pairs.new infos.new }
 {
     match q {
         Request::SetUp(_) => Err(Refusal::OutOfTurn),
-        Request::Add(a) => do_add(h, ws, t, a),
-        Request::NoWriters(i) => do_no_writers(h, ws, i),
-        Request::Choose(c) => do_choose(h, ws, t, None, c, pairs),
-        Request::ChooseWithin(i, c) => do_choose(h, ws, t, Some(i), c, pairs),
-        Request::Read(_) => do_list(h, ws, t, rec, false, infos),
-        Request::Take(_) => do_list(h, ws, t, rec, true, infos),
-        Request::NextKey(i) => Ok(do_next_key(h, ws, i)),
+        Request::Add(a) => do_add(x, t, a),
+        Request::NoWriters(i) => do_no_writers(x, i),
+        Request::Choose(c) => do_choose(x, t, None, c, pairs),
+        Request::ChooseWithin(i, c) => do_choose(x, t, Some(i), c, pairs),
+        Request::Read(_) => do_list(x, t, rec, false, infos),
+        Request::Take(_) => do_list(x, t, rec, true, infos),
+        Request::NextKey(i) => Ok(do_next_key(x, i)),
     }
 }
 
 fn answer(
-    s: Session,
-    ws: &mut [u64; Cache::WORDS],
+    s: &mut Session,
     t: &mut [Sample],
     rec: &[u8],
     pairs: &mut [u64; Reply::PAIRS_SIZE],
     infos: &mut [u64; Reply::INFOS_SIZE],
-) -> Result<Replied, Refusal>
-    ensures { Turns rec.now s ws.old t.old pairs.old infos.old result ws.new t.new pairs.new infos.new }
+) -> Result<Reply, Refusal>
+    ensures { Turns rec.now s.old t.old pairs.old infos.old result s.new t.new pairs.new infos.new }
 {
     let q = replies::admitted(s, records::decode(rec))?;
-    match s.head {
-        None => begin(ws, t, q),
-        Some(h) => ask(h, ws, t, rec, q, pairs, infos),
+    match &mut s.index {
+        None => begin(s, t, q),
+        Some(x) => ask(x, t, rec, q, pairs, infos),
     }
 }
 
 // A record, without its two length bytes, is answered: its lines stand at the front of `line`, the pairs and infos that they print at the front of `pairs`
-// and `infos`.
+// and `infos`. The answer is how many bytes of `line` they are.
 pub fn respond(
-    s: Session,
-    ws: &mut [u64; Cache::WORDS],
+    s: &mut Session,
     t: &mut [Sample],
     rec: &[u8],
     pairs: &mut [u64; Reply::PAIRS_SIZE],
     infos: &mut [u64; Reply::INFOS_SIZE],
     line: &mut [u8; Reply::LINES_SIZE],
-) -> Answered
-    ensures { Responded rec.now s ws.old t.old pairs.old infos.old line.old result ws.new t.new pairs.new infos.new line.new }
+) -> usize
+    ensures { Responded rec.now s.old t.old pairs.old infos.old line.old result s.new t.new pairs.new infos.new line.new }
 {
-    let r = answer(s, ws, t, rec, pairs, infos);
-    Answered {
-        session: s.after(r),
-        size: answers::print(replies::reply_in(r), pairs, infos, line),
-    }
+    let r = answer(s, t, rec, pairs, infos);
+    answers::print(r, pairs, infos, line)
 }
 
 // Before the first record.
 pub fn start() -> Session
     ensures { result ≡ starting }
 {
-    Session { head: None }
+    Session { index: None }
 }

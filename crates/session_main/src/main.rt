@@ -1,4 +1,4 @@
-// The session program: records on standard input, their lines on standard output. It owns the sample table and the index, and answers each record
+// The session program: records on standard input, their lines on standard output. It owns the sample table and the session, and answers each record
 // before it waits for the next one. With --full it also prints the writer and the sequence number of each info, for the comparison with the Rust.
 #![tactic(auto)]
 
@@ -14,7 +14,6 @@ use frames::{Stop, Told};
 use index::Cache;
 use replies::Session;
 use sampleinfo::Sample;
-use session::Answered;
 use std::env::FillError;
 use std::io::{Stderr, Stdin, Stdout};
 use std::rt::Env;
@@ -101,53 +100,34 @@ struct Buffers {
     line: [u8; Reply::LINES_SIZE],
 }
 
-// The session after a record, and how its lines were told.
-#[derive(Drop)]
-struct After {
-    session: Session,
-    told: Told,
-}
-
 // The lines of a record that was answered.
-fn tell_all(streams: Streams, full: bool, a: Answered, line: &[u8], infos: &[u64]) -> After
-    ensures { Tells a line.now result }
+fn tell_all(streams: Streams, full: bool, n: usize, line: &[u8], infos: &[u64]) -> Told
+    ensures { Tells n line.now result }
 {
-    let told = frames::tell(&streams.output, line, a.size);
+    let told = frames::tell(&streams.output, line, n);
     let size = told.size;
-    After {
-        session: a.session,
-        told: Told {
-            done: tell_more(streams.output, full, told, &line[..size], infos),
-            size,
-        },
+    Told {
+        done: tell_more(streams.output, full, told, &line[..size], infos),
+        size,
     }
 }
 
 fn one_record(
     streams: Streams,
     input: &mut Stdin,
-    s: Session,
-    ws: &mut [u64; Cache::WORDS],
+    s: &mut Session,
     t: &mut [Sample],
     lent: &mut Buffers,
     full: bool,
-) -> Result<After, Stop>
+) -> Result<Told, Stop>
     ensures two_len_unchanged { length lent.new.two ≡ length lent.old.two }
     ensures rec_len_unchanged { length lent.new.rec ≡ length lent.old.rec }
-    ensures turn { (st : Option Model) → Stands st s ws.old t.old → Turned st s ws.old t.old lent.new.two lent.new.rec lent.old.pairs lent.old.infos lent.old.line result ws.new t.new lent.new.pairs lent.new.infos lent.new.line }
+    ensures turn { (st : Option Model) → Stands st s.old t.old → Turned st s.old t.old lent.new.two lent.new.rec lent.old.pairs lent.old.infos lent.old.line result s.new t.new lent.new.pairs lent.new.infos lent.new.line }
 {
     let n = frames::next_record(input, &mut lent.two, &mut lent.rec)?;
     let rec = &lent.rec[..n];
-    let a = session::respond(
-        s,
-        ws,
-        t,
-        rec,
-        &mut lent.pairs,
-        &mut lent.infos,
-        &mut lent.line,
-    );
-    Ok(tell_all(streams, full, a, &lent.line, &lent.infos))
+    let size = session::respond(s, t, rec, &mut lent.pairs, &mut lent.infos, &mut lent.line);
+    Ok(tell_all(streams, full, size, &lent.line, &lent.infos))
 }
 
 fn empty_record() -> Sample
@@ -208,7 +188,6 @@ fn main(rt: HostRuntime) {
     };
     let empty = empty_record();
     let mut t = [empty; Cache::SLOTS];
-    let mut ws = [0; Cache::WORDS];
     let mut lent = Buffers {
         two: [0; 2],
         rec: [0; LONGEST],
@@ -218,10 +197,9 @@ fn main(rt: HostRuntime) {
     };
     let mut s = session::start();
     'records: for _ in 0..u64::MAX {
-        match one_record(streams, &mut input, s, &mut ws, &mut t, &mut lent, full) {
-            Ok(after) => {
-                s = after.session;
-                if !frames::checked(&streams.errors, after.told.done, b"session_main: write") {
+        match one_record(streams, &mut input, &mut s, &mut t, &mut lent, full) {
+            Ok(told) => {
+                if !frames::checked(&streams.errors, told.done, b"session_main: write") {
                     return;
                 }
             }

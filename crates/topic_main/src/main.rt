@@ -72,9 +72,9 @@ fn put_entry(page: &mut Page, kept: Kept) {
         SPACE,
         Word::Number(change.sequence_number),
         SPACE,
-        Word::Number(change.handle as u64),
+        Word::Number(u64::from(change.handle)),
         SPACE,
-        Word::Number(change.payload_size as u64),
+        Word::Number(u64::from(change.payload_size)),
         NEWLINE,
     ];
     put_words(page, &words);
@@ -88,54 +88,11 @@ fn put_entries(page: &mut Page, res: &[u64], n: usize) {
     }
 }
 
-// ---- calls: each prints its answer and gives the cache that stands; what is refused prints nothing here
-
-fn do_new(
-    streams: Streams,
-    words: &mut [u64; CacheChange::TABLE],
-    rec: &[u8],
-) -> Result<TopicCache, Refusal> {
-    let history = topic_records::history_in(rec);
-    let cache = TopicCache::new(history, topic_records::most_in(rec), words)?;
-    ok(streams);
-    Ok(cache)
-}
-
-fn do_update(streams: Streams, cache: TopicCache, rec: &[u8]) -> Result<TopicCache, Refusal> {
-    let history = topic_records::history_in(rec);
-    let updated = cache.update_keep_limits(history, topic_records::most_in(rec))?;
-    ok(streams);
-    Ok(updated)
-}
-
 fn print_added(streams: Streams, answer: Added) {
     match answer {
         Added::Key(key) => print_named(streams, b"key", key),
         Added::HeldAlready => print(streams, b"held already\n"),
     }
-}
-
-fn do_add(
-    streams: Streams,
-    cache: TopicCache,
-    words: &mut [u64; CacheChange::TABLE],
-    rec: &[u8],
-) -> Result<TopicCache, Refusal> {
-    let time = records::u64_at(rec, 33);
-    let outcome = cache.add_change(words, time, topic_records::change_of(rec))?;
-    print_added(streams, outcome.answer);
-    Ok(outcome.cache)
-}
-
-fn do_remove(
-    streams: Streams,
-    cache: TopicCache,
-    words: &mut [u64; CacheChange::TABLE],
-    rec: &[u8],
-) -> TopicCache {
-    let then = cache.remove_changes_before(words, records::u64_at(rec, 1));
-    ok(streams);
-    then
 }
 
 // The page holds the longest answer: 384 entries of at most 97 bytes.
@@ -146,62 +103,83 @@ fn print_entries(streams: Streams, res: &[u64], n: usize) {
     print_page(streams, &page);
 }
 
-// The results have room for every place, so refusal 9 does not come.
-fn do_range(
+// ---- a session: its cache, once a new was accepted, and the lent words it stands in
+
+#[derive(Drop)]
+struct Session {
     streams: Streams,
-    cache: TopicCache,
-    words: &[u64; CacheChange::TABLE],
-    rec: &[u8],
-) -> Result<TopicCache, Refusal> {
-    let mut res = [0; CacheChange::TABLE];
-    let start = records::u64_at(rec, 1);
-    let end = records::u64_at(rec, 9);
-    let n = cache.get_changes_in_range_best_effort(words, start, end, &mut res)?;
-    print_entries(streams, &res, n);
-    Ok(cache)
+    cache: Option<TopicCache>,
+    words: [u64; CacheChange::TABLE],
 }
 
-// ---- a session: its cache, once a new was accepted
+impl Session {
+    // ---- calls: each prints its answer and gives the cache that stands; what is refused prints nothing here
 
-// The cache that a record leaves. Only a new comes where there is none.
-fn call(
-    streams: Streams,
-    s: Option<TopicCache>,
-    words: &mut [u64; CacheChange::TABLE],
-    rec: &[u8],
-) -> Result<TopicCache, Refusal> {
-    let op = topic_records::op_of(rec)?;
-    op.refusal(s.is_some())?;
-    let Some(cache) = s else {
-        return do_new(streams, words, rec);
-    };
-    match op {
-        Op::New => do_new(streams, words, rec),
-        Op::Update => do_update(streams, cache, rec),
-        Op::Add => do_add(streams, cache, words, rec),
-        Op::RemoveBefore => Ok(do_remove(streams, cache, words, rec)),
-        Op::Range => do_range(streams, cache, words, rec),
+    fn do_new(&mut self, rec: &[u8]) -> Result<TopicCache, Refusal> {
+        let history = topic_records::history_in(rec);
+        let cache = TopicCache::new(history, topic_records::most_in(rec), &mut self.words)?;
+        ok(self.streams);
+        Ok(cache)
     }
-}
 
-// A refused record leaves the session as it was.
-fn respond(
-    streams: Streams,
-    s: Option<TopicCache>,
-    words: &mut [u64; CacheChange::TABLE],
-    rec: &[u8],
-) -> Option<TopicCache> {
-    match call(streams, s, words, rec) {
-        Ok(cache) => Some(cache),
-        Err(why) => {
-            refused(streams, why);
-            s
+    fn do_update(&self, cache: TopicCache, rec: &[u8]) -> Result<TopicCache, Refusal> {
+        let history = topic_records::history_in(rec);
+        let updated = cache.update_keep_limits(history, topic_records::most_in(rec))?;
+        ok(self.streams);
+        Ok(updated)
+    }
+
+    fn do_add(&mut self, cache: TopicCache, rec: &[u8]) -> Result<TopicCache, Refusal> {
+        let time = records::u64_at(rec, 33);
+        let outcome = cache.add_change(&mut self.words, time, topic_records::change_of(rec))?;
+        print_added(self.streams, outcome.answer);
+        Ok(outcome.cache)
+    }
+
+    fn do_remove(&mut self, cache: TopicCache, rec: &[u8]) -> TopicCache {
+        let then = cache.remove_changes_before(&mut self.words, records::u64_at(rec, 1));
+        ok(self.streams);
+        then
+    }
+
+    // The results have room for every place, so refusal 9 does not come.
+    fn do_range(&self, cache: TopicCache, rec: &[u8]) -> Result<TopicCache, Refusal> {
+        let mut res = [0; CacheChange::TABLE];
+        let start = records::u64_at(rec, 1);
+        let end = records::u64_at(rec, 9);
+        let n = cache.get_changes_in_range_best_effort(&self.words, start, end, &mut res)?;
+        print_entries(self.streams, &res, n);
+        Ok(cache)
+    }
+
+    // The cache that a record leaves. Only a new comes where there is none.
+    fn call(&mut self, rec: &[u8]) -> Result<TopicCache, Refusal> {
+        let op = topic_records::op_of(rec)?;
+        op.refusal(self.cache.is_some())?;
+        let Some(cache) = self.cache else {
+            return self.do_new(rec);
+        };
+        match op {
+            Op::New => self.do_new(rec),
+            Op::Update => self.do_update(cache, rec),
+            Op::Add => self.do_add(cache, rec),
+            Op::RemoveBefore => Ok(self.do_remove(cache, rec)),
+            Op::Range => self.do_range(cache, rec),
+        }
+    }
+
+    // A refused record leaves the session as it was.
+    fn respond(&mut self, rec: &[u8]) {
+        match self.call(rec) {
+            Ok(cache) => self.cache = Some(cache),
+            Err(why) => refused(self.streams, why),
         }
     }
 }
 
 // ---- the input
 
+// A twin of session_main's: what a cut prints differs.
 // No whole piece of the input came: its end, a wrong version or a record that is cut off, or a failed read.
 fn over(streams: Streams, why: Stop) {
     match why {
@@ -213,28 +191,20 @@ fn over(streams: Streams, why: Stop) {
     }
 }
 
-// One record: read whole and answered.
-fn one_record(
-    streams: Streams,
-    input: &mut Stdin,
-    s: Option<TopicCache>,
-    words: &mut [u64; CacheChange::TABLE],
-    two: &mut [u8],
-    rec: &mut [u8],
-) -> Result<Option<TopicCache>, Stop> {
-    let n = frames::next_record(input, two, rec)?;
-    Ok(respond(streams, s, words, &rec[..n]))
-}
-
-// The version byte, and then each record.
+// The version byte, and then each record, read whole and answered.
 fn all_records(streams: Streams, input: &mut Stdin) -> Result<(), Stop> {
     frames::next_version(input, &mut [0; 1])?;
-    let mut words = [0; CacheChange::TABLE];
+    let mut session = Session {
+        streams,
+        cache: None,
+        words: [0; CacheChange::TABLE],
+    };
     let mut two = [0; 2];
     let mut rec = [0; Request::LONGEST];
-    let mut s = None;
+    // 2^64 - 1 records end it, so that it is proved to end.
     for _ in 0..u64::MAX {
-        s = one_record(streams, input, s, &mut words, &mut two, &mut rec)?;
+        let n = frames::next_record(input, &mut two, &mut rec)?;
+        session.respond(&rec[..n]);
     }
     Ok(())
 }

@@ -9,7 +9,7 @@ use changes::CacheChange;
 use dds_cache::{History, KeepLimits};
 use refusals::Refusal;
 
-// What a record asks for.
+// What a record asks for. A kind alone, its fields are read beside it: `op_in` of the definitions gives no fields, and may not change.
 #[derive(Clone, Copy)]
 pub enum Op {
     New,

@@ -5,6 +5,7 @@ use Rattle.access.proofs.settle.Goals as goal
 
 pub returns : goal.returns
 returns c =
-    settle-done c.args.h c.if-take.head c.args.ws.now c.if-take.ws c.args.slots.now c.args.n c.args.take c.args.seen.now c.view_rows.new.ws
-    (λ s t. elim c.if-take.branch [ then-take w ↦ rw (w.ws-is, w.head-is, w.if-take.true) (w.free_all-head.ensures s t) | else-take w ↦ rw (w.ws-is, w.head-is, w.if-take.false) t ])
-    c.view_rows.ensures
+    rw c.view_rows.ensures.head_as_found
+    (settle-done c.args.x.now.head c.if-take.x.head c.args.x.now.words c.if-take.x.words c.args.slots.now c.args.n c.args.take c.args.seen.now c.view_rows.new.x.words
+    (λ s t. elim c.if-take.branch [ then-take w ↦ rw (w.x-is, w.if-take.true) (w.free_all.ensures s t) | else-take w ↦ rw (w.x-is, w.if-take.false) t ])
+    c.view_rows.ensures.viewed)

@@ -5,5 +5,5 @@ use Rattle.datasample_cache.proofs.set_up.Goals as goal
 
 pub returns : goal.returns
 returns c =
-    set-done (set_up_of c.args.mode c.args.keep c.args.instances) c.args.ws.now c.args.t.now c.if-t-ne-SLOTS.false _ (rw (to_z-of_z c.ranges.keep) at c.depth_in.ensures) _ c.ok_or.ensures.value
-    _ _ c.in_ok-depth.was c.from.ensures c.set_up.result c.set_up.new.ws c.fill.new.t c.set_up.ensures c.fill.ensures.1
+    set-done (set_up_of c.args.mode c.args.keep c.args.instances) c.args.t.now c.if-t-ne-SLOTS.false _ (rw (to_z-of_z c.ranges.keep) at c.depth_in.ensures) _ c.ok_or.ensures.value
+    _ _ c.in_ok-depth.was c.from.ensures c.set_up.result c.fill.new.t c.set_up.ensures c.fill.ensures.1

@@ -3,5 +3,5 @@ use Rattle.std.proofs.Common.{rules}
 use Rattle.plan.specs.KeyedLaws.{old-held}
 use Rattle.plan.proofs.old_meta.Goals as goal
 
-pub returns-then-row-held : goal.returns-then-row-held
-returns-then-row-held c = search (rules, old-held)
+pub returns-then-row-x : goal.returns-then-row-x
+returns-then-row-x c = search (rules, old-held)

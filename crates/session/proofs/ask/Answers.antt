@@ -2,7 +2,7 @@ use Rattle.session.proofs.TurnLaws.{set-up-late}
 use Rattle.session.proofs.ask.Goals as goal
 
 pub returns-in-SetUp : goal.returns-in-SetUp
-returns-in-SetUp c = λ m b. set-up-late m c.args.h c.args.ws.now c.args.t.now c.args.q _ c.in-SetUp.is _ _ _
+returns-in-SetUp c = λ m b. set-up-late m c.args.x.now c.args.t.now c.args.q _ c.in-SetUp.is _ _ _
 
 pub returns-in-Add : goal.returns-in-Add
 returns-in-Add c = λ m b l. rw c.in-Add.is (c.do_add.ensures m _ _ l)

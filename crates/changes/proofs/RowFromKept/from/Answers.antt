@@ -13,4 +13,4 @@ returns c =
     let w : Writer c.args.kept.change.writer_guid = writer _ (search rules) (search rules) in
     let low : c.from_le_bytes.result ≡ half 0 c.args.kept.change.writer_guid = low-half _ w _ c.as_chunks.ensures.front _ _ c.from_le_bytes.ensures in
     let high : c.from_le_bytes-2.result ≡ half 8 c.args.kept.change.writer_guid = high-half _ w _ c.as_chunks.ensures.front _ _ c.from_le_bytes-2.ensures in
-    (rw (low, high), w)
+    (rw (low, high, c.from.ensures, c.from-2.ensures), w)

@@ -1,6 +1,6 @@
 use Rattle.std.proofs.Common.{rules}
 use Rattle.infos.specs.GetLaws.{bytes-start, bytes-turn, bytes-end}
-use Rattle.infos.proofs.writer_at.Goals as goal
+use Rattle.infos.proofs.writer_of.Goals as goal
 
 pub loop-j-init : goal.loop-j-init
 loop-j-init c = search (rules, bytes-start)
