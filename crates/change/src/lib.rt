@@ -1,7 +1,7 @@
 // What changes the cache beside an add: an accepted set-up, the no-writers event, a slot that becomes free.
 #![tactic(auto)]
 
-ghost use Rattle.std.specs.Prelude.{◌≡◌, cond, ℕ, ◌+◌, ◌*◌, ◌<◌, ◌≤◌, eqb};
+ghost use Rattle.std.specs.Prelude.{◌≡◌, cond, ℕ, ◌+◌, ◌*◌, ◌<◌, ◌≤◌, eqb, OnErr};
 ghost use Rattle.std.proofs.Math.Option.{Option};
 ghost use Rattle.store.specs.Store.{Store, dying};
 ghost use Rattle.store.specs.Fit.{depth_of};
@@ -47,6 +47,7 @@ pub fn set_up(depth: usize, room: usize) -> Index
 pub fn no_writers(x: &mut Index, name: u64) -> Result<(), Refusal>
     ensures left { (s : Store) → Held s x.old.head.held x.old.words → Left (dying s name) result x.new.words }
     ensures head_as_found { x.new.head ≡ x.old.head }
+    ensures as_found { OnErr result (x.new ≡ x.old) }
 {
     let row = index::find(&x.words, x.head.held, name);
     if x.head.held <= row {

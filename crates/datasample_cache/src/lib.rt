@@ -162,6 +162,7 @@ pub fn set_up(t: &mut [Sample], mode: u8, keep: i32, instances: u16) -> Result<I
 pub fn no_writers(x: &mut Index, instance: u64) -> Result<(), Refusal>
     ensures dies { (m : Model) (t : List Sample) → Good m → Lies m x.old.head x.old.words t → Dies (step m (Call.no_writers instance)) result x.new.head x.new.words t }
     ensures head_as_found { x.new.head ≡ x.old.head }
+    ensures as_found { OnErr result (x.new ≡ x.old) }
 {
     change::no_writers(x, instance)
 }

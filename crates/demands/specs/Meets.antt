@@ -9,7 +9,7 @@ use Rattle.datasample_access.specs.Listed.{Told}
 use Rattle.std.specs.declared.result.Result.{Result}
 use Rattle.refusals.specs.declared.Refusal.{Refusal}
 
--- what the caller holds between two calls: the header, the lent words and the lent table
+-- what the caller holds between two calls: the header and the words, and the table that it lends
 pub record Memory : Type 0 where
   pub head : Cache
   pub words : List ℕ

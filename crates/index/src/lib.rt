@@ -1,6 +1,6 @@
-// The cache on numbers: the header that goes by value, and the lent words with a region for each thing that a search asks for.
+// The cache on numbers: the header, and the words with a region for each thing that a search asks for.
 //
-// The 928 lent words:
+// The 928 words:
 //
 //     from  words  region
 //        0     32  NAMES   the instance keys, in order of arrival; 0 where none is held
@@ -19,7 +19,7 @@ ghost use Rattle.index.specs.Memory.{Held};
 use sampleinfo::{InstanceMetaData, InstanceState, NotAliveGenerationCounts, State};
 use slots::Free;
 
-// What a cache holds beside the lent words.
+// What a cache holds beside the words.
 // Kept: 0 for no keep count and 256 for no slot, as in the definitions that the header is compared with.
 #[derive(Clone, Copy)]
 pub struct Cache {
@@ -38,7 +38,7 @@ impl Cache {
     // How many words are lent.
     pub const WORDS: usize = 928;
 
-    // Where each region of the lent words begins.
+    // Where each region of the words begins.
     pub const NAMES: usize = 0;
 
     pub const METAS: usize = 32;
