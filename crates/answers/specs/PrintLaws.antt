@@ -14,8 +14,6 @@ use Rattle.std.specs.Simd.{first_chunks}
 use Rattle.infos.specs.Words.{no_info, get_info}
 use Rattle.std.specs.Prelude.{Result, Ok, Err}
 use Rattle.std.specs.Prelude as std
-use Rattle.refusals.specs.declared.Refusal.{Refusal}
-use Rattle.refusals.specs.Numbers.{number_of}
 use Rattle.printing.specs.Printout.{selected_word, samples_word, number_line, pair_line, pair_lines, info_line, info_lines, printed}
 use Rattle.printing.specs.Lines.{line_room, number_in, Lined, Laid}
 use Rattle.printing.specs.LineLaws.{laid_then}
@@ -125,12 +123,9 @@ module _ (l mid out : List ℕ) (n top from at p : ℕ) (first : top ≡ 0) (roo
 
 -- ---- the arms of print
 
-module _ (l out ps is : List ℕ) (top q : ℕ) (r : Result Reply Refusal) (first : top ≡ 0) (room : length l ≡ lines_size) where
-  pub refused-said : (e : Refusal) → r ≡ Err e → Lined l top (printed (refused (number_of e))) out q → (a : Answer) → Says r ps is a → Laid l top (printed a) out q
-  refused-said e g b a s =
-      let n = number_of e in
-      let z : a ≡ refused n = rw g at s in
-      rw z (first-laid l out top q first room (printed (refused n)) b (refused-length n))
+module _ (l out ps is : List ℕ) (top q : ℕ) (r : Result Reply ℕ) (first : top ≡ 0) (room : length l ≡ lines_size) where
+  pub refused-said : (n : ℕ) → r ≡ Err n → Lined l top (printed (refused n)) out q → (a : Answer) → Says r ps is a → Laid l top (printed a) out q
+  refused-said n e b a s = let z : a ≡ refused n = rw e at s in rw z (first-laid l out top q first room (printed (refused n)) b (refused-length n))
 
   pub ok-said : r ≡ Ok reply.Ok → Lined l top (printed ok) out q → (a : Answer) → Says r ps is a → Laid l top (printed a) out q
   ok-said e b a s = let z : a ≡ ok = rw e at s in rw z (first-laid l out top q first room (printed ok) b ok-length)
@@ -141,7 +136,7 @@ module _ (l out ps is : List ℕ) (top q : ℕ) (r : Result Reply Refusal) (firs
   pub next-said : (x : std.Option ℕ) → r ≡ Ok (reply.Next x) → Lined l top (printed (next (number_in x))) out q → (a : Answer) → Says r ps is a → Laid l top (printed a) out q
   next-said x e b a s = let z : a ≡ next (number_in x) = rw e at s in rw z (first-laid l out top q first room (printed (next (number_in x))) b (next-length (number_in x)))
 
-module _ (l out ps is : List ℕ) (top q n : ℕ) (r : Result Reply Refusal) where
+module _ (l out ps is : List ℕ) (top q n : ℕ) (r : Result Reply ℕ) where
   pub selected-said : r ≡ Ok (reply.Selected n) → (n ≤ most → n ≤ length (pairs_of ps) → Laid l top (printed (selected (take n (pairs_of ps)))) out q) → length ps ≡ pairs_size → (a : Answer) → Says r ps is a → Laid l top (printed a) out q
   selected-said e f words a s =
       let z : (a ≡ selected (take n (pairs_of ps))) × (n ≤ length (pairs_of ps)) = rw e at s in

@@ -26,10 +26,16 @@ Shows n is (added k s e) = ⊥
 Shows n is (selected ps) = ⊥
 Shows n is (next k) = ⊥
 
-abbrev pub Says : Result Reply Refusal → List ℕ → List ℕ → Answer → Type 0
-Says (Err e) ps is a = a ≡ refused (number_of e)
+-- a reply, or the number that it was refused by
+abbrev pub Says : Result Reply ℕ → List ℕ → List ℕ → Answer → Type 0
+Says (Err n) ps is a = a ≡ refused n
 Says (Ok reply.Ok) ps is a = a ≡ ok
 Says (Ok (reply.Added k s e)) ps is a = a ≡ added k s (number_in e)
 Says (Ok (reply.Selected n)) ps is a = (a ≡ selected (take n (pairs_of ps))) × (n ≤ length (pairs_of ps))
 Says (Ok (reply.Infos n)) ps is a = Shows n is a
 Says (Ok (reply.Next x)) ps is a = a ≡ next (number_in x)
+
+-- a refusal by its number
+abbrev pub numbered : Result Reply Refusal → Result Reply ℕ
+numbered (Ok r) = Ok r
+numbered (Err e) = Err (number_of e)

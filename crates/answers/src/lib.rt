@@ -12,7 +12,6 @@ ghost use Rattle.answers.specs.Sizes.{most};
 ghost use Rattle.answers.specs.Says.{Shown, Says};
 ghost use Rattle.answers.specs.SoFar.{IsBlank, Lays};
 
-use refusals::Refusal;
 use text::Page;
 
 // What a call answers that is not refused. The pairs of a selection and the infos of a list stand in lent words, and their number here.
@@ -73,7 +72,7 @@ fn info_lines(page: &mut Page, infos: &[u64; Reply::INFOS_SIZE], n: usize)
 
 fn lines(
     page: &mut Page,
-    r: Result<Reply, Refusal>,
+    r: Result<Reply, u64>,
     pairs: &[u64; Reply::PAIRS_SIZE],
     infos: &[u64; Reply::INFOS_SIZE],
 )
@@ -82,7 +81,7 @@ fn lines(
     ensures told { (a : Answer) → Says r pairs.now infos.now a → Lays page.old (printed a) page.new }
 {
     match r {
-        Err(refusal) => printing::refused_line(page, refusal.number()),
+        Err(n) => printing::refused_line(page, n),
         Ok(Reply::Ok) => printing::ok_line(page),
         Ok(Reply::Added { key, slot, evicted }) => printing::key_line(page, key, slot, evicted),
         Ok(Reply::Selected(n)) => pair_lines(page, pairs, n),
@@ -91,9 +90,9 @@ fn lines(
     }
 }
 
-// The lines of an answer go to the front of the lent bytes; the answer is how many bytes they are.
+// The lines of a reply, or of the number that it was refused by, go to the front of the lent bytes; the answer is how many bytes they are.
 pub fn print(
-    r: Result<Reply, Refusal>,
+    r: Result<Reply, u64>,
     pairs: &[u64; Reply::PAIRS_SIZE],
     infos: &[u64; Reply::INFOS_SIZE],
     line: &mut [u8; Reply::LINES_SIZE],

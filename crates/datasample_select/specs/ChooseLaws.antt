@@ -1,5 +1,5 @@
 -- A choice of the code is the model's choice: the last step of the proof.
-use Rattle.std.specs.Prelude.{◌≡◌, cond, List, [], ℕ, ◌/◌, leb, length}
+use Rattle.std.specs.Prelude.{◌≡◌, cond, List, [], ℕ, ◌/◌, leb, length, OnErr}
 use Rattle.std.proofs.Common.{sym, ap, ◌∙◌, subst, arith}
 use Rattle.std.proofs.Math.Option.{Option}
 use Rattle.std.proofs.lemmas.List.{length-map}
@@ -19,7 +19,7 @@ use Rattle.memory.specs.Lies.{Lies, tied, table-long}
 use Rattle.select.specs.Choice.{Seen}
 use Rattle.select.specs.Ordered.{insert_all}
 use Rattle.select.specs.OrderedLaws.{length-all}
-use Rattle.select.specs.Told.{selecting, Told}
+use Rattle.select.specs.Told.{selecting, written, Told}
 use Rattle.std.specs.declared.result.Result.{Result}
 use Rattle.std.specs.declared.result.Result.TheVariants.{Ok, Err}
 use Rattle.refusals.specs.Numbers.{number_of}
@@ -67,3 +67,9 @@ pub choose-unfit : (hs : List Hit) (t : List Sample) (c : ReadCondition) (room :
 unfolding selecting
 choose-unfit hs t c room r was out x long (no_table n) = absurd (n long)
 choose-unfit hs t c room r was out x long (beyond e) = told-refused Malformed r was out (rw e at x)
+
+-- a refused choice leaves the buffer, whatever lies in memory
+pub told-err : (a : Answer) (r : Result ℕ Refusal) (was out : List ℕ) → Told a r was out → OnErr r (out ≡ was)
+unfolding pair_words
+told-err a (Ok n) was out t = tt
+told-err a (Err e) was out t = t.buffer ∙ ap (λ b. written b was) (sym t.answer)

@@ -1,7 +1,7 @@
 // datasample_cache.rs: select_keys_for_access and select_instance_keys_for_access over lent memory.
 #![tactic(auto)]
 
-ghost use Rattle.std.specs.Prelude.{◌≡◌, ◌/◌, length};
+ghost use Rattle.std.specs.Prelude.{◌≡◌, ◌/◌, length, OnErr};
 ghost use Rattle.std.proofs.Math.Option.{some};
 ghost use Rattle.model.specs.Model.{Model, Call, step};
 ghost use Rattle.refine.specs.Good.{Good};
@@ -25,6 +25,7 @@ pub fn choose(
 ) -> Result<usize, Refusal>
     ensures told { (m : Model) → Good m → Lies m x.now.head x.now.words t.now → Told (step m (Call.choose (scope_of within) rc (length out.old / 2))).answer result out.old out.new }
     ensures value { Unfit t.now rc → (result ≡ not_chosen) × (out.new ≡ out.old) }
+    ensures as_found { OnErr result (out.new ≡ out.old) }
 {
     // the table is a lent slice by the rule, so its length is asked
     if t.len() != Cache::SLOTS {
@@ -45,6 +46,7 @@ pub fn choose_within(
 ) -> Result<usize, Refusal>
     ensures told { (m : Model) → Good m → Lies m x.now.head x.now.words t.now → Told (step m (Call.choose (some instance) rc (length out.old / 2))).answer result out.old out.new }
     ensures value { Unfit t.now rc → (result ≡ not_chosen) × (out.new ≡ out.old) }
+    ensures as_found { OnErr result (out.new ≡ out.old) }
 {
     choose(x, t, Some(instance), rc, out)
 }

@@ -12,7 +12,7 @@ use std::{io, str};
 // ---- the input
 
 // Why no whole piece of the input came: it ends where it may, it is cut off, or a read failed.
-#[derive(Drop)]
+#[derive(Clone, Copy)]
 pub enum Stop {
     Over,
     Cut,
@@ -86,7 +86,7 @@ pub fn next_record<R: Read>(input: &mut R, two: &mut [u8], rec: &mut [u8]) -> Re
 // ---- the output
 
 // Whether the lines could be written, and how many bytes were handed over: kept, since that is promised of a failed write too.
-#[derive(Drop)]
+#[derive(Clone, Copy)]
 pub struct Told {
     pub done: io::Result<()>,
     pub size: usize,

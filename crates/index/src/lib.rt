@@ -60,7 +60,7 @@ impl Cache {
 
 // A cache beside its sample table: the header, and the words with a region for each thing that a search asks for. The host
 // owns it and lends it.
-#[derive(Drop)]
+#[derive(Clone, Copy)]
 pub struct Index {
     pub head: Cache,
     pub words: [u64; Cache::WORDS],

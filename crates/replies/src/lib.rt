@@ -11,7 +11,7 @@ use records::Request;
 use refusals::Refusal;
 
 // What a session holds beside the lent table: the index of the cache that was set up, if one was.
-#[derive(Drop)]
+#[derive(Clone, Copy)]
 pub struct Session {
     pub index: Option<Index>,
 }

@@ -2,7 +2,7 @@
 use Rattle.std.specs.Prelude.{◌≡◌, Bool, true, false, cond, List, [], ◌∷◌, ◌++◌, ℕ, ◌*◌, ◌/◌, ◌%◌, ◌≤◌, ◌<◌, ◌^◌, length, take, drop, min}
 use Rattle.std.proofs.Math.Path.{refl, subst}
 use Rattle.std.proofs.Common.{sym, ap, ◌∙◌, arith, SFits, to_z, of_z, to_z-of_z, length-take, drop_at}
-use Rattle.std.proofs.Math.Option.{some, none}
+use Rattle.std.proofs.Math.Option.{Option, some, none}
 use Rattle.std.specs.Int.{w32}
 use Rattle.sampleinfo.specs.declared.Sample.{Sample}
 use Rattle.sampleinfo.specs.declared.Info.{Info}
@@ -28,7 +28,6 @@ use Rattle.pairs.specs.Flat.{pairs_of, pair_words, whole_pairs}
 use Rattle.datasample_cache.specs.Came.{added_as, evicted_as, Came}
 use Rattle.datasample_cache.specs.Others.{reply_as, next_as, set_up_of, SetsUp, Dies}
 use Rattle.datasample_cache.specs.declared.Added.{Added}
-use Rattle.select.specs.Choice.{scope_of}
 use Rattle.select.specs.Told as select
 use Rattle.datasample_access.specs.Listed as list
 use Rattle.datasample_access.specs.Listed.{listing}
@@ -39,7 +38,7 @@ use Rattle.records.specs.declared.SetUp.{SetUp}
 use Rattle.records.specs.declared.Arrival.{Arrival}
 use Rattle.printing.specs.Lines.{number_in}
 use Rattle.answers.specs.Sizes.{pairs_size, info_size, infos_size}
-use Rattle.answers.specs.Says.{Says}
+use Rattle.answers.specs.Says.{Says, numbered}
 use Rattle.answers.specs.declared.Reply.{Reply}
 use Rattle.answers.specs.declared.Reply.TheVariants as reply
 use Rattle.replies.specs.declared.Session.{Session}
@@ -58,11 +57,11 @@ evicted-said : (e : the_code.Option ℕ) → evicted_as e ≡ number_in e
 evicted-said (Some h) = refl
 evicted-said None = refl
 
-add-says : (ps is : List ℕ) (a : Answer) (x : Result Added Refusal) → added_as x ≡ a → Says (add_done x) ps is a
+add-says : (ps is : List ℕ) (a : Answer) (x : Result Added Refusal) → added_as x ≡ a → Says (numbered (add_done x)) ps is a
 add-says ps is a (Ok y) h = sym h ∙ ap (M.added y.key y.slot) (evicted-said y.evicted)
 add-says ps is a (Err e) h = sym h
 
-event-says : (ps is : List ℕ) (a : Answer) (x : Result Unit Refusal) → reply_as x ≡ a → Says (event_done x) ps is a
+event-says : (ps is : List ℕ) (a : Answer) (x : Result Unit Refusal) → reply_as x ≡ a → Says (numbered (event_done x)) ps is a
 event-says ps is a (Ok y) e = sym e
 event-says ps is a (Err n) e = sym e
 
@@ -82,7 +81,7 @@ selected-most a n out e k =
     chosen-count : (i j : ℕ) → ◌≡◌ {A = Result ℕ Refusal} (Ok i) (Ok j) → i ≡ j
     chosen-count i j p = ap counted p
 
-choose-says : (is was out : List ℕ) (a : Answer) (x : Result ℕ Refusal) → select.Told a x was out → Says (choose_done x) out is a
+choose-says : (is was out : List ℕ) (a : Answer) (x : Result ℕ Refusal) → select.Told a x was out → Says (numbered (choose_done x)) out is a
 choose-says is was out a (Ok n) e = (sym e.answer, selected-most a n out e.answer e.count)
 choose-says is was out a (Err n) e = sym e.answer
 
@@ -93,7 +92,7 @@ infos-again out after xs e =
     let z : drop (info_size * length xs) after ≡ drop (info_size * length xs) out = rw e (drop_at (words_of_infos xs) (drop (info_size * length xs) out) (info_size * length xs) (length-words xs)) in
     e ∙ ap (λ (r : List ℕ). words_of_infos xs ++ r) (sym z)
 
-list-says : (ps out after : List ℕ) (a : Answer) (x : Result ℕ Refusal) → list.Told a x out after → SmallAnswer a → Says (list_done x) ps after a
+list-says : (ps out after : List ℕ) (a : Answer) (x : Result ℕ Refusal) → list.Told a x out after → SmallAnswer a → Says (numbered (list_done x)) ps after a
 list-says ps out after (M.infos xs) (Ok x) h k = record { count = h.0; words = infos-again out after xs h.1; small = k }
 list-says ps out after (M.infos xs) (Err e) h k = absurd h
 list-says ps out after (M.refused n) (Ok x) h k = absurd h
@@ -225,13 +224,13 @@ module _ (t then : List Sample) (q : Result Reply Refusal) where
           infos = (told-left was out (step m c).answer r x.answer ps).1;
         })
 
-    pub choose-answers : (w : the_code.Option ℕ) (c : ReadCondition) (was out : List ℕ) (r : Result ℕ Refusal) → q ≡ choose_done r → length was ≡ pairs_size
-        → ((m : Model) → Good m → Lies m i.head i.words t → select.Told (step m (Call.choose (scope_of w) c (length was / 2))).answer r was out)
-        → (m : Model) (is : List ℕ) → Ready m s t → Answers (answering (some m) (Call.choose (scope_of w) c buffer)) s t was is q s t out is
+    pub choose-answers : (w : Option ℕ) (c : ReadCondition) (was out : List ℕ) (r : Result ℕ Refusal) → q ≡ choose_done r → length was ≡ pairs_size
+        → ((m : Model) → Good m → Lies m i.head i.words t → select.Told (step m (Call.choose w c (length was / 2))).answer r was out)
+        → (m : Model) (is : List ℕ) → Ready m s t → Answers (answering (some m) (Call.choose w c buffer)) s t was is q s t out is
     unfolding answering step
     choose-answers w c was out r e n f m is l =
-        let y : select.Told (step m (Call.choose (scope_of w) c buffer)).answer r was out = rw n at f m l.good l.lies in
-        let left : out ≡ pairs_left (step m (Call.choose (scope_of w) c buffer)).answer was = y.buffer ∙ written-left (step m (Call.choose (scope_of w) c buffer)).answer was in
+        let y : select.Told (step m (Call.choose w c buffer)).answer r was out = rw n at f m l.good l.lies in
+        let left : out ≡ pairs_left (step m (Call.choose w c buffer)).answer was = y.buffer ∙ written-left (step m (Call.choose w c buffer)).answer was in
         rw e (record { says = choose-says is was out _ r y; stands = l; kept = tt; pairs = left; infos = chosen-left is r out _ y.answer })
 
     pub no-writers-answers : (after : Index) (n : ℕ) (r : Result Unit Refusal) → q ≡ event_done r → ((m : Model) (t : List Sample) → Good m → Lies m i.head i.words t → Dies (step m (Call.no_writers n)) r after.head after.words t)

@@ -18,7 +18,7 @@ use Rattle.records.specs.Format.{too_long, call_of, bad}
 use Rattle.bounds.specs.Small.{AllSmall}
 use Rattle.printing.specs.Printout.{printed}
 use Rattle.printing.specs.Lines.{Laid}
-use Rattle.answers.specs.Says.{Says}
+use Rattle.answers.specs.Says.{Says, numbered}
 use Rattle.session.specs.Session.{Turn, turn}
 use Rattle.replies.specs.declared.Session.{Session}
 use Rattle.answers.specs.declared.Reply.{Reply}
@@ -75,7 +75,7 @@ infos_left (next k) was = was
 
 -- the reply, with the pairs and the infos beside it, says the answer. As found: s, t, and the buffers ps and is; as left: s', then, qs and js
 pub record Answers (u : Turn) (s : Session) (t : List Sample) (ps is : List ℕ) (r : Result Reply Refusal) (s' : Session) (then : List Sample) (qs js : List ℕ) : Type 0 where
-  pub says : Says r qs js u.answer
+  pub says : Says (numbered r) qs js u.answer
   pub stands : Stands u.then s' then
   pub kept : Kept u.then s t s' then
   pub pairs : qs ≡ pairs_left u.answer ps

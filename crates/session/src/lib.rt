@@ -7,8 +7,8 @@ ghost use Rattle.model.specs.Model as model;
 ghost use Rattle.model.specs.Model.{Model};
 ghost use Rattle.model.specs.Pairs.{Pair};
 ghost use Rattle.records.specs.Format.{too_long, list_pairs, set_up_meant, arrival_meant, op_meant, buffer};
-ghost use Rattle.select.specs.Choice.{scope_of};
 ghost use Rattle.sampleinfo.specs.declared.Sample.{Sample};
+ghost use Rattle.answers.specs.Says.{numbered};
 ghost use Rattle.replies.specs.Steps.{starting, session_of};
 ghost use Rattle.session.specs.Session.{answering};
 ghost use Rattle.session.specs.Stands.{Stands, Answers, Turns, Responded};
@@ -49,17 +49,29 @@ fn do_add(x: &mut Index, t: &mut [Sample], a: records::Arrival) -> Result<Reply,
 
 // ---- choosing
 
-// Over all instances, or within the one named.
+// Over all instances.
 fn do_choose(
     x: &Index,
     t: &[Sample],
-    within: Option<u64>,
     rc: ReadCondition,
     pairs: &mut [u64; Reply::PAIRS_SIZE],
 ) -> Result<Reply, Refusal>
-    ensures { (m : Model) (is : List ℕ) → Stands (Option.some m) (session_of (Some x.now)) t.now → Answers (answering (Option.some m) (model.choose (scope_of within) rc buffer)) (session_of (Some x.now)) t.now pairs.old is result (session_of (Some x.now)) t.now pairs.new is }
+    ensures { (m : Model) (is : List ℕ) → Stands (Option.some m) (session_of (Some x.now)) t.now → Answers (answering (Option.some m) (model.choose Option.none rc buffer)) (session_of (Some x.now)) t.now pairs.old is result (session_of (Some x.now)) t.now pairs.new is }
 {
-    replies::choose_done(datasample_select::choose(x, t, within, rc, pairs))
+    replies::choose_done(datasample_select::choose(x, t, None, rc, pairs))
+}
+
+// Within the one named: the library's call of that name.
+fn do_choose_within(
+    x: &Index,
+    t: &[Sample],
+    instance: u64,
+    rc: ReadCondition,
+    pairs: &mut [u64; Reply::PAIRS_SIZE],
+) -> Result<Reply, Refusal>
+    ensures { (m : Model) (is : List ℕ) → Stands (Option.some m) (session_of (Some x.now)) t.now → Answers (answering (Option.some m) (model.choose (Option.some instance) rc buffer)) (session_of (Some x.now)) t.now pairs.old is result (session_of (Some x.now)) t.now pairs.new is }
+{
+    replies::choose_done(datasample_select::choose_within(x, t, instance, rc, pairs))
 }
 
 // ---- reading and taking
@@ -124,8 +136,8 @@ fn ask(
         Request::SetUp(_) => Err(Refusal::OutOfTurn),
         Request::Add(a) => do_add(x, t, a),
         Request::NoWriters(i) => do_no_writers(x, i),
-        Request::Choose(c) => do_choose(x, t, None, c, pairs),
-        Request::ChooseWithin(i, c) => do_choose(x, t, Some(i), c, pairs),
+        Request::Choose(c) => do_choose(x, t, c, pairs),
+        Request::ChooseWithin(i, c) => do_choose_within(x, t, i, c, pairs),
         Request::Read(_) => do_list(x, t, rec, false, infos),
         Request::Take(_) => do_list(x, t, rec, true, infos),
         Request::NextKey(i) => Ok(do_next_key(x, i)),
@@ -148,6 +160,13 @@ fn answer(
     }
 }
 
+// A refusal by its number, which is what is printed of it.
+fn numbered(r: Result<Reply, Refusal>) -> Result<Reply, u64>
+    ensures { result ≡ numbered r }
+{
+    r.map_err(|why| why.number())
+}
+
 // A record, without its two length bytes, is answered: its lines stand at the front of `line`, the pairs and infos that they print at the front of `pairs`
 // and `infos`. The answer is how many bytes of `line` they are.
 pub fn respond(
@@ -161,7 +180,7 @@ pub fn respond(
     ensures { Responded rec.now s.old t.old pairs.old infos.old line.old result s.new t.new pairs.new infos.new line.new }
 {
     let r = answer(s, t, rec, pairs, infos);
-    answers::print(r, pairs, infos, line)
+    answers::print(numbered(r), pairs, infos, line)
 }
 
 // Before the first record.

@@ -44,14 +44,14 @@ begins s e b h k = record {
 -- a turn leaves something standing, and the table of the start where no set-up was accepted
 module _ (s s' : Session) (t then : List Sample) (two rec ps is was qs js line : List ℕ) (r : Result Told Stop)
     (f : (st : Option Model) → Stands st s t → Turned st s t two rec ps is was r s' then qs js line) (x : Standing s t) where
-  still-standing : Standing s' then
+  pub still-standing : Standing s' then
   still-standing = go (f x.what x.stands)
     where
       go : Turned x.what s t two rec ps is was r s' then qs js line → Standing s' then
       go (ended e a b c d l) = rw (a, b) x
       go (answered q e a y) = record { what = (turn x.what (take (number_at 2 two 0) rec)).then; stands = y.stands }
 
-  still-fresh : (s.index ≡ None → t ≡ empty_table) → s'.index ≡ None → then ≡ empty_table
+  pub still-fresh : (s.index ≡ None → t ≡ empty_table) → s'.index ≡ None → then ≡ empty_table
   still-fresh start z = go (f x.what x.stands)
     where
       by : (st : Option Model) → Stands st s' then → Kept st s t s' then → then ≡ empty_table

@@ -4,7 +4,7 @@ use Rattle.answers.specs.PrintLaws.{refused-said, ok-said, added-said, selected-
 use Rattle.answers.proofs.lines.Goals as goal
 
 pub returns-in-Err-clause-told : goal.returns-in-Err-clause-told
-returns-in-Err-clause-told c = refused-said _ _ _ _ _ _ _ c.requires.0 c.requires.1 c.in-Err.refusal c.in-Err.is (rw (← c.number.ensures) c.refused_line.ensures.line)
+returns-in-Err-clause-told c = refused-said _ _ _ _ _ _ _ c.requires.0 c.requires.1 c.in-Err.n c.in-Err.is c.refused_line.ensures.line
 
 pub returns-in-Ok-Ok-clause-told : goal.returns-in-Ok-Ok-clause-told
 returns-in-Ok-Ok-clause-told c = ok-said _ _ _ _ _ _ _ c.requires.0 c.requires.1 (search rules) c.ok_line.ensures.line
