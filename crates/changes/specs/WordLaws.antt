@@ -113,6 +113,9 @@ module _ (es : List Entry) (held n : ℕ) (ws : List ℕ) (h : Holds es held ws)
       rw (moved, all, take_at G (drop (0 + (6 * held - 6 * n)) ws) (6 * (held - n)) left-long, drop_at G (drop (0 + (6 * held - 6 * n)) ws) (6 * (held - n)) left-long, rest, replicate-append-replicate, q)
       (sym (words-is (drop n es)))
 
+pub removed-none : (es : List Entry) (held n : ℕ) (ws : List ℕ) → Holds es held ws → n ≡ 0 → ws ≡ words_of (drop n es)
+removed-none es held n ws h z = h.words ∙ rw z
+
 none-held : (n m : ℕ) → n ≡ m → flat (map line_of []) ++ replicate m 0 ≡ replicate n 0
 unfolding flat
 none-held n m e = rw e

@@ -186,6 +186,10 @@ pub fn clear_all(words: &mut [u64; CacheChange::TABLE])
 pub fn drop_oldest(words: &mut [u64; CacheChange::TABLE], held: usize, n: usize)
     ensures { (es : List Entry) → Holds es held words.old → n ≤ held → words.new ≡ words_of (drop n es) }
 {
+    // Most calls drop none: without this each would copy the held words onto themselves.
+    if n == 0 {
+        return;
+    }
     if n <= held && held <= CacheChange::PLACES {
         let left = CacheChange::WORDS * (held - n);
         let end = CacheChange::WORDS * held;
