@@ -11,6 +11,8 @@ use native.Mathlib.Omega.{arith}
 use Rattle.std.proofs.Math.Dec.{leb, eqb}
 use Rattle.std.proofs.Math.ListN.{length, get_or}
 use Rattle.std.proofs.lemmas.List.FromFn.{length-enumerate_from, get_or-enumerate_from}
+use Rattle.std.proofs.lemmas.List.Filters.{length-filter_more}
+use Rattle.std.specs.Int.{from_bool}
 use borrow.Rule.Slice.PartMut.{put_mid}
 use Rattle.lists.specs.Blocks.{flat, get-map}
 use Rattle.model.specs.Topic.{Entry, count_below, holds_pair, within}
@@ -34,6 +36,16 @@ below-is t (e ∷ es) = go (ltb e.key t) (below-is t es)
         → length (cond b (line_of e ∷ filter (below t) (map line_of es)) (filter (below t) (map line_of es))) ≡ cond b 1 0 + count_below t es
     go true h = omega (arith, h)
     go false h = omega (arith, h)
+
+-- one row further
+pub below-more : (t n i m : ℕ) (rows : List (List ℕ)) → n ≡ length (filter (below t) (take i rows)) → n ≤ i → i < length rows → m ≡ from_bool (below t (get_or rows i []))
+    → (n + m ≤ i + 1) × (n + m ≡ length (filter (below t) (take (i + 1) rows)))
+below-more t n i m rows e few h p = go (below t (get_or rows i [])) p (length-filter_more (below t) rows i [] h)
+  where
+    go : (b : Bool) → m ≡ from_bool b → length (filter (below t) (take (i + 1) rows)) ≡ length (filter (below t) (take i rows)) + cond b 1 0
+        → (n + m ≤ i + 1) × (n + m ≡ length (filter (below t) (take (i + 1) rows)))
+    go true p l = (omega (arith, p, few), omega (arith, p, e, l))
+    go false p l = (omega (arith, p, few), omega (arith, p, e, l))
 
 -- ---- a held pair of writer and sequence number
 

@@ -152,10 +152,12 @@ fn rows(words: &[u64; CacheChange::TABLE], held: usize) -> &[[u64; CacheChange::
 pub fn count_below(words: &[u64; CacheChange::TABLE], held: usize, before: u64) -> usize
     ensures { (es : List Entry) → Holds es held words.now → result ≡ count_below before es }
 {
-    rows(words, held)
-        .iter()
-        .filter(|row| row[0] < before)
-        .count()
+    // A loop, since `filter(..).count()` takes half as much again for a row.
+    let mut n = 0;
+    for row in rows(words, held) {
+        n += usize::from(row[0] < before);
+    }
+    n
 }
 
 pub fn find_by_sn(

@@ -1,14 +1,15 @@
-use Rattle.std.proofs.Common.{List, ℕ, length, ap, ◌∙◌, rules}
+use Rattle.std.proofs.Common.{List, ℕ, length, ap, ◌∙◌, take_all}
 use Rattle.std.specs.List.{filter}
-use Rattle.std.proofs.lemmas.Iterator.{YieldsList-from_slice}
-use Rattle.std.proofs.lemmas.Iterator.Consumers.{YieldsList-at, YieldsList-from_filter, count_from_yields_List}
-use borrow.Author.Tests.{tests}
-use Rattle.changes.specs.LookLaws.{below, below-is}
+use Rattle.changes.specs.LookLaws.{below, below-is, below-more}
 use Rattle.changes.proofs.count_below.Goals as goal
+
+pub loop-row-preserved : goal.loop-row-preserved
+loop-row-preserved c =
+    let m = below-more c.args.before _ _ _ c.rows-row-items.result.now c.loop-row.invariant.counted c.loop-row.invariant.few c.loop-row-test.true c.from-n.ensures in
+    record { few = m.0; counted = m.1 }
 
 pub returns : goal.returns
 returns c = λ es h.
-    count_from_yields_List _ _ c.count.ensures.ran
-    (YieldsList-from_filter _ (below c.args.before) (YieldsList-at c.filter.ensures.source (YieldsList-from_slice c.rows.result.now cc)) c.filter.ensures.closure (λ x b q k. search (rules, tests)))
-    ∙ ap (λ (l : List (List ℕ)). length (filter (below c.args.before) l)) (c.rows.ensures es h)
+    c.loop-row.invariant.counted
+    ∙ ap (λ (l : List (List ℕ)). length (filter (below c.args.before) l)) (take_all _ _ c.loop-row-test.false ∙ c.rows-row-items.ensures es h)
     ∙ below-is c.args.before es
