@@ -3,7 +3,8 @@ use Rattle.std.specs.Prelude.{◌≡◌, refl, Bool, true, false, cond, List, []
 use Rattle.std.proofs.Common.{sym, ap, ◌∙◌, pow-suc, arith, lt-ltb, le-ltb, ltb-false, append-nil, Fits, SFits, to_z, of_z, to_z-of_z}
 use Rattle.std.proofs.lemmas.Fmt.{PrependsLastDigit, decimal_from_prepends, length-decimal-le}
 use Rattle.std.specs.Fmt.{decimal, signed_decimal}
-use lib.Signed.{mag}
+use lib.Signed.{mag, le_z}
+use Rattle.std.proofs.lemmas.Bool.{false≢true}
 use Rattle.std.specs.Int.{w64}
 use Rattle.text.specs.declared.Word.{Word}
 use Rattle.text.specs.declared.Word.TheVariants as word
@@ -94,3 +95,20 @@ number-reads s w n e f d = let h = f.fits in rw (e, d) (decimal-is n h)
 
 pub signed-reads : (s : List ℕ) (w : Word) (z : ℤ) → w ≡ word.Signed z → SFits w64 z → s ≡ signed_decimal (to_z w64 (of_z w64 z)) → word_text w ≡ s
 signed-reads s w z e f d = rw (e, d, to_z-of_z f) (signed-is z f.sfits)
+
+-- a number of one digit is that digit, and one that is not below 0 has no sign
+pub digit-reads : (n : ℕ) → n < 10 → decimal_of n ≡ (48 + n) ∷ []
+unfolding decimal_of digits_onto
+digit-reads n h = rw (lt-ltb n 10 h)
+
+no-sign : (z : ℤ) → le_z (pos 0) z ≡ true → signed_of z ≡ decimal_of (nat_abs z)
+unfolding signed_of
+no-sign (pos n) h = refl
+no-sign (negsuc n) h = absurd (false≢true h)
+
+-- of a signed number as a parameter holds it
+pub unsigned-is : (z : ℤ) → SFits w64 z → le_z (pos 0) (to_z w64 (of_z w64 z)) ≡ true → signed_of z ≡ decimal_of (nat_abs (to_z w64 (of_z w64 z)))
+unsigned-is z f h = let e = to_z-of_z f in let k = rw e at h in rw e (no-sign z k)
+
+pub signed-held : (z : ℤ) → SFits w64 z → signed_of z ≡ signed_decimal (to_z w64 (of_z w64 z))
+signed-held z f = rw (to_z-of_z f) (signed-is z f.sfits)

@@ -2,7 +2,7 @@
 #![tactic(auto)]
 
 ghost use Rattle.std.specs.Prelude.{◌≡◌};
-ghost use Rattle.text.specs.Text.{word_text, Puts};
+ghost use Rattle.text.specs.Text.{decimal_of, signed_of, word_text, Puts};
 
 // A number has no leading zero, and a minus sign where it is below 0.
 #[derive(Clone, Copy)]
@@ -33,6 +33,7 @@ impl<'a> Page<'a> {
     }
 
     // The text goes in, and the place is the one after it; where there is no room for all of it, nothing is done.
+    #[inline(always)]
     pub fn put_bytes(&mut self, text: &[u8])
         ensures { Puts self.old text.now self.new }
     {
@@ -43,15 +44,38 @@ impl<'a> Page<'a> {
         }
     }
 
+    // The same for a number.
+    #[inline(always)]
+    fn put_number(&mut self, n: u64)
+        ensures { Puts self.old (decimal_of n) self.new }
+    {
+        // Most have one digit, and that goes in with no copy.
+        if n < 10 {
+            return self.put_bytes(&[b'0' + n as u8]);
+        }
+        self.put_bytes(itoa::Buffer::new().format(n).as_bytes())
+    }
+
+    // With a minus sign where it is below 0.
+    #[inline(always)]
+    fn put_signed(&mut self, x: i64)
+        ensures { Puts self.old (signed_of x) self.new }
+    {
+        if 0 <= x {
+            return self.put_number(x.unsigned_abs());
+        }
+        self.put_bytes(itoa::Buffer::new().format(x).as_bytes())
+    }
+
     // The same for a word. Not by `write!`: no clause of std says that it is Ok where there is room.
+    #[inline(always)]
     pub fn put(&mut self, word: Word)
         ensures { Puts self.old (word_text word.entry) self.new }
     {
-        let mut digits = itoa::Buffer::new();
         match word {
             Word::Text(text) => self.put_bytes(text),
-            Word::Number(n) => self.put_bytes(digits.format(n).as_bytes()),
-            Word::Signed(x) => self.put_bytes(digits.format(x).as_bytes()),
+            Word::Number(n) => self.put_number(n),
+            Word::Signed(x) => self.put_signed(x),
         }
     }
 }

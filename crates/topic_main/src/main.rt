@@ -11,9 +11,9 @@ use std::io::{Stderr, Stdin, Stdout};
 use text::{Page, Word};
 use topic_records::Op;
 
-const SPACE: Word = Word::Text(b" ");
+const SPACE: u8 = b' ';
 
-const NEWLINE: Word = Word::Text(b"\n");
+const NEWLINE: u8 = b'\n';
 
 // Where lines go, and where what went wrong is told.
 #[derive(Clone, Copy)]
@@ -35,15 +35,17 @@ fn print_page(streams: Streams, page: &Page) {
     print(streams, &page.bytes[..size]);
 }
 
-fn put_words(page: &mut Page, words: &[Word]) {
-    for word in words {
-        page.put(*word);
-    }
+// A word, and the byte behind it. Inline, so that each call knows its kind of word: a list of words, put by one loop, cost half as much again.
+#[inline(always)]
+fn put_word(page: &mut Page, word: Word, end: u8) {
+    page.put(word);
+    page.put_bytes(&[end]);
 }
 
 // A line of a word and a number.
 fn put_named(page: &mut Page, text: &[u8], n: u64) {
-    put_words(page, &[Word::Text(text), SPACE, Word::Number(n), NEWLINE]);
+    put_word(page, Word::Text(text), SPACE);
+    put_word(page, Word::Number(n), NEWLINE);
 }
 
 fn print_named(streams: Streams, text: &[u8], n: u64) {
@@ -65,19 +67,11 @@ fn refused(streams: Streams, why: Refusal) {
 fn put_entry(page: &mut Page, kept: Kept) {
     let change = kept.change;
     let writer = topic_records::writer_text(change.writer_guid);
-    let words = [
-        Word::Number(kept.key),
-        SPACE,
-        Word::Text(&writer),
-        SPACE,
-        Word::Number(change.sequence_number),
-        SPACE,
-        Word::Number(u64::from(change.handle)),
-        SPACE,
-        Word::Number(u64::from(change.payload_size)),
-        NEWLINE,
-    ];
-    put_words(page, &words);
+    put_word(page, Word::Number(kept.key), SPACE);
+    put_word(page, Word::Text(&writer), SPACE);
+    put_word(page, Word::Number(change.sequence_number), SPACE);
+    put_word(page, Word::Number(u64::from(change.handle)), SPACE);
+    put_word(page, Word::Number(u64::from(change.payload_size)), NEWLINE);
 }
 
 // How many entries there are, and a line for each.
