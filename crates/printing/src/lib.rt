@@ -1,7 +1,7 @@
 // The lines that the session program prints, laid into a lent buffer of bytes.
 #![tactic(auto)]
 
-ghost use Rattle.std.specs.Prelude.{◌≡◌, ◌∷◌, [], ◌++◌, ◌+◌, ◌≤◌, length, map};
+ghost use Rattle.std.specs.Prelude.{◌≡◌, ◌∷◌, [], ◌++◌, ◌+◌, ◌-◌, ◌≤◌, length, map};
 ghost use Rattle.text.specs.Text.{word_text};
 ghost use Rattle.model.specs.Model as model;
 ghost use Rattle.printing.specs.Printout.{line_of, selected_word, samples_word, or_dash, number_line, pair_line, info_line, printed};
@@ -17,7 +17,15 @@ const NEWLINE: u8 = b'\n';
 // The room that is asked for a line: more than any line has.
 pub const LINE_ROOM: usize = 256;
 
+// How many bytes are left on a page from its place on.
+fn left(page: &Page) -> usize
+    ensures { result ≡ length page.now.bytes.now - page.now.at }
+{
+    page.bytes.len().saturating_sub(page.at)
+}
+
 // A word, and the byte behind it.
+#[inline(always)]
 fn put_word(page: &mut Page, word: Word, end: u8)
     requires { page.old.at + length (word_text word) + 1 ≤ length page.old.bytes.now }
     ensures { Adds page.old (word_text word.entry ++ end ∷ []) page.new }
@@ -41,7 +49,7 @@ fn line(page: &mut Page, words: &[Word])
     requires { length (line_of (map word_text words.now)) ≤ line_room }
     ensures { AddsLine page.old (line_of (map word_text words.now)) page.new }
 {
-    if page.bytes.len().saturating_sub(page.at) < LINE_ROOM {
+    if left(page) < LINE_ROOM {
         return;
     }
     let Some((last, front)) = words.split_last() else {

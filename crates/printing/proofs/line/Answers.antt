@@ -3,8 +3,8 @@ use Rattle.std.proofs.Common.{rules, refl, ◌∙◌}
 use Rattle.printing.specs.LineLaws.{line_kept, words_start, turn_fits, words_turn, last_fits, words_end, words_none}
 use Rattle.printing.proofs.line.Goals as goal
 
-pub returns-then-saturating_sub-lt-LINE_ROOM : goal.returns-then-saturating_sub-lt-LINE_ROOM
-returns-then-saturating_sub-lt-LINE_ROOM c = record { line = search (rules, line_kept); same = refl }
+pub returns-then-left-lt-LINE_ROOM : goal.returns-then-left-lt-LINE_ROOM
+returns-then-left-lt-LINE_ROOM c = record { line = search (rules, line_kept); same = refl }
 
 pub returns-in_default : goal.returns-in_default
 returns-in_default c = record { line = search (rules, words_none, c.in_default.ensures.cases); same = c.put_word.ensures.same }
