@@ -96,11 +96,11 @@ module _ (l : Limits) (r : Result KeepLimits Refusal) (e : Limiting l r) where
       record { number = rw f.0; head = rw (f.0, f.1, p); words = rw (f.0, q) }
 
   module _ (c : Topic) (h : TopicCache) (t : shown h ≡ head_of c) where
-    raised-none : (x : Refusal) → r ≡ Err x → Raised (step c (update l)) h (Err x)
+    pub raised-none : (x : Refusal) → r ≡ Err x → Raised (step c (update l)) h (Err x)
     unfolding step
     raised-none x o = let f : (limits_fit l ≡ false) × (number_of x ≡ 2) = refused-number x o in rw f.0 (record { answer = rw f.1; head = t })
 
-    raised-some : (m k : KeepLimits) → r ≡ Ok m → limits_of k ≡ wider (limits_of h.limits) (limits_of m)
+    pub raised-some : (m k : KeepLimits) → r ≡ Ok m → limits_of k ≡ wider (limits_of h.limits) (limits_of m)
         → Raised (step c (update l)) h (Ok (record { limits = k; last_added_instant = h.last_added_instant; held = h.held }))
     unfolding step
     raised-some m k o w =
