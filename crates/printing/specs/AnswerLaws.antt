@@ -39,6 +39,11 @@ info-line-length i =
       signed-length i.absolute_generation_rank,
     ))
 
+-- two numbers
+pub two-words-fit : (a b : ℕ) → length (line_of (decimal_of a ∷ decimal_of b ∷ [])) ≤ line_room
+unfolding line_of
+two-words-fit a b = simp length-append (omega (arith, decimal-length a, decimal-length b))
+
 -- eight numbers and two that may be below 0
 pub ten-words-fit : (a b c d e f g h : ℕ) (y z : ℤ)
     → length (line_of (decimal_of a ∷ decimal_of b ∷ decimal_of c ∷ decimal_of d ∷ decimal_of e ∷ decimal_of f ∷ decimal_of g ∷ decimal_of h ∷ signed_of y ∷ signed_of z ∷ [])) ≤ line_room
