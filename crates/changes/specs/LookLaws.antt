@@ -128,3 +128,14 @@ copied-turn es first out row d n k m o h e r six =
     let now : row ≡ line_of (get_or es k none) = r ∙ get-map line_of es k none d h in
     let long : n ≡ length (take k es) = simp length-take (omega arith) in
     rw (o, copy_more (take k es) n m first row (get_or es k none) long six now, add-one, take-suc es k none h)
+
+-- a row is its six words
+pub six-words : (l : List ℕ) (a b c d e f : ℕ) → length l ≡ 6 → get_or l 0 a ∷ get_or l 1 b ∷ get_or l 2 c ∷ get_or l 3 d ∷ get_or l 4 e ∷ get_or l 5 f ∷ [] ≡ l
+six-words [] a b c d e f h = absurd (omega (arith, h))
+six-words (u ∷ []) a b c d e f h = absurd (omega (arith, h))
+six-words (u ∷ v ∷ []) a b c d e f h = absurd (omega (arith, h))
+six-words (u ∷ v ∷ w ∷ []) a b c d e f h = absurd (omega (arith, h))
+six-words (u ∷ v ∷ w ∷ x ∷ []) a b c d e f h = absurd (omega (arith, h))
+six-words (u ∷ v ∷ w ∷ x ∷ y ∷ []) a b c d e f h = absurd (omega (arith, h))
+six-words (u ∷ v ∷ w ∷ x ∷ y ∷ z ∷ []) a b c d e f h = refl
+six-words (u ∷ v ∷ w ∷ x ∷ y ∷ z ∷ s ∷ l) a b c d e f h = absurd (omega (arith, h))

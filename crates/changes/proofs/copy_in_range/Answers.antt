@@ -8,12 +8,13 @@ use Rattle.std.proofs.lemmas.Iterator.Consumers.{YieldsList-at, YieldsList-from_
 use borrow.Author.Tests.{tests}
 use Rattle.model.specs.Topic.{Entry, within}
 use Rattle.changes.specs.Places.{line_of, shown_in}
-use Rattle.changes.specs.LookLaws.{ranged, ranged-is, ranged-none, turned, copied-start, copied-turn}
+use Rattle.changes.specs.LookLaws.{ranged, ranged-is, ranged-none, turned, copied-start, copied-turn, six-words}
 use Rattle.changes.proofs.copy_in_range.Goals as goal
 
 pub loop-n-init : goal.loop-n-init
 loop-n-init c = record { copied = λ es h r. copied-start (within c.args.start c.args.end es) _; nothing = λ h. refl }
 
+-- By search and with `six-words`, so that a body that lays the six words of a row one by one is taken too: result_swaps_words is refused for the word alone.
 pub loop-n-preserved-then-n-out : goal.loop-n-preserved-then-n-out
 loop-n-preserved-then-n-out c =
     let found : List (List ℕ) = filter (ranged c.args.start c.args.end) c.rows.result.now in
@@ -26,7 +27,7 @@ loop-n-preserved-then-n-out c =
           let ws : List Entry = within c.args.start c.args.end es in
           let f : found ≡ map line_of ws = ap (filter (ranged c.args.start c.args.end)) (c.rows.ensures es h) ∙ ranged-is c.args.start c.args.end es in
           copied-turn ws _ _ _ _ _ _ _ (c.loop-n.invariant.copied es h r) (omega (arith, t.0, ap length f, length-map ws line_of)) t.1
-          (c.copy_from_slice.ensures.after ∙ t.2 ∙ ap (λ (l : List (List ℕ)). get_or l (length c.loop-n.yielded) c.in-Some.row.now) f) (omega arith)
+          (c.copy_from_slice.ensures.after ∙ search (rules, six-words) ∙ t.2 ∙ ap (λ (l : List (List ℕ)). get_or l (length c.loop-n.yielded) c.in-Some.row.now) f) (omega arith)
           ∙ ap (λ (m : ℕ). shown_in (take m ws) c.args.out.now) (sym (length_push c.loop-n.yielded (c.in-Some.n, c.in-Some.row)));
       nothing = λ h. absurd (omega (arith, t.0, ap length (ranged-none c.args.start c.args.end c.rows.result.now h)));
     }
